@@ -1,0 +1,9 @@
+pub mod Sums
+pub mod Folding
+pub mod Weights
+pub mod Words
+pub mod Distances
+pub mod Quotients
+pub mod Octets
+pub mod Zeros
+pub mod Registers

@@ -1,0 +1,5 @@
+pub mod Bits
+pub mod Division
+pub mod Check
+pub mod Distance
+pub mod Standing

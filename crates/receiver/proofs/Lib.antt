@@ -1,0 +1,4 @@
+pub mod Ties
+pub mod Judging
+pub mod Taking
+pub mod Listening
