@@ -1,13 +1,11 @@
 -- Along an altered frame, mark by mark: a fault, and then no gap before the end.
-use mathlib.Core.Bool.{Bool, true, false, cond}
 use mathlib.Core.List.{List, [], _∷_, _++_}
 use mathlib.Core.Logic.{_⊎_, inl, inr}
 use mathlib.Core.Path.{_≡_, refl, sym, subst, ap, _∙_}
-use Prim.Native.Nat.{ℕ, zero, suc, _+_, _≤_, _<_}
+use Prim.Native.Nat.{ℕ, suc, _≤_, _<_}
 use native.Mathlib.Omega.{arith}
-use lib.Dec.{ltb}
-use lib.ListN.{length, replicate}
-use Rattle.std.proofs.shelf.Lists.{append-assoc, append-nil}
+use lib.ListN.{length}
+use Rattle.std.proofs.shelf.Lists.{append-assoc}
 use Rattle.std.proofs.shelf.Tests.{lt-ltb}
 use Rattle.lines.specs.declared.mark.Mark.{Mark}
 use Rattle.lines.specs.declared.mark.Mark.the-variants.{Zero, One, Bad}
@@ -16,7 +14,7 @@ use Rattle.formats.specs.Marks.{Quiet, ones}
 use Rattle.formats.specs.Verdicts.{Fault, FaultAlong, Verdict, Open, open-list, tells, frame-of, fault-of}
 use Rattle.hearing.specs.Promise.{Entry, NothingHandedOver, no-frame}
 use Rattle.hearing.specs.Rules.{Hearer, Stage, Step, by-stage, comes-to, count-told, hears, holding, judged, ready, resting, run-after, waiting, within}
-use Rattle.hearing.proofs.Traces.{Free, Trace, entry, stop, mark, free}
+use Rattle.hearing.proofs.Traces.{Trace, entry, stop, mark, free}
 use Rattle.hearing.proofs.Verdicts.{ones-more, run-below}
 
 -- with the run and the marks to come there is no gap

@@ -1,21 +1,19 @@
 -- From a quiet gap to the frame behind it, mark by mark.
-use mathlib.Core.Bool.{Bool, true, false, cond}
 use mathlib.Core.List.{List, [], _∷_, _++_}
 use mathlib.Core.Path.{_≡_, refl, sym, subst, ap, _∙_}
 use Prim.Native.Nat.{ℕ, zero, suc, _+_, _≤_, _<_}
-use native.Mathlib.Numerals.{add-one}
 use native.Mathlib.Omega.{arith}
-use lib.ListN.{drop, length, replicate, set, take}
-use Rattle.std.proofs.shelf.Lists.{append-assoc, append-nil, length-append, length-push, take-more-set}
+use lib.ListN.{drop, length, set, take}
+use Rattle.std.proofs.shelf.Lists.{append-assoc, append-nil, length-push, take-more-set}
 use Rattle.lines.specs.declared.mark.Mark.{Mark}
-use Rattle.lines.specs.declared.mark.Mark.the-variants.{Zero, One, Bad}
-use Rattle.formats.specs.Laws.{Laws, Lawful, Model}
+use Rattle.lines.specs.declared.mark.Mark.the-variants.{Zero, One}
+use Rattle.formats.specs.Laws.{Laws, Model}
 use Rattle.formats.specs.Marks.{Begins, ones}
 use Rattle.formats.specs.Verdicts.{JudgedAlong, Verdict, Open, OpenAlong, octet-told, open-list, tells, frame-of, fault-of, told-along}
 use Rattle.hearing.specs.Promise.{Entry, HandedOver, handed, no-frame}
 use Rattle.hearing.specs.Rules.{Hearer, Stage, Step, by-stage, comes-to, count-told, hears, holding, judged, ready, run-after, waiting, within}
 use Rattle.hearing.proofs.Gap.{Passing, Set, passed, passing-one}
-use Rattle.hearing.proofs.Traces.{Free, Trace, entry, freed, note, stop, mark, free}
+use Rattle.hearing.proofs.Traces.{Free, Trace, entry, stop, mark, free}
 use Rattle.hearing.proofs.Verdicts.{begins-more, open-snoc, told-snoc}
 
 module _ (m : Model) (laws : Laws m) (kind : ℕ) (octets : List ℕ) where

@@ -2,19 +2,19 @@
 use mathlib.Core.Bool.{Bool, true, false, cond}
 use mathlib.Core.List.{List, [], _∷_, _++_}
 use mathlib.Core.Path.{_≡_, refl, sym, subst, ap, _∙_}
-use Prim.Native.Nat.{ℕ, zero, suc, _+_, _≤_, _<_}
+use Prim.Native.Nat.{ℕ, suc, _≤_, _<_}
 use native.Mathlib.Omega.{arith}
-use borrow.Author.Tests.{ltb-true, ltb-false}
+use borrow.Author.Tests.{ltb-true}
 use lib.Dec.{ltb}
-use lib.ListN.{drop, length, replicate}
+use lib.ListN.{length}
 use Rattle.std.proofs.shelf.Lists.{append-assoc, append-nil}
 use Rattle.lines.specs.declared.mark.Mark.{Mark}
 use Rattle.lines.specs.declared.mark.Mark.the-variants.{Zero, One, Bad}
 use Rattle.formats.specs.Laws.{Laws, Model}
 use Rattle.formats.specs.Marks.{Begins, ones}
 use Rattle.formats.specs.Verdicts.{Verdict, Open, OpenAlong, open-list, tells, frame-of, fault-of}
-use Rattle.hearing.specs.Rules.{Hearer, Sound, Stage, Step, by-stage, comes-to, count-told, hears, holding, judged, ready, resting, run-after, waiting, within}
-use Rattle.hearing.proofs.Traces.{Free, Trace, entry, freed, stop, mark, free}
+use Rattle.hearing.specs.Rules.{Hearer, Sound, Stage, by-stage, comes-to, count-told, hears, holding, ready, resting, run-after, waiting, within}
+use Rattle.hearing.proofs.Traces.{Trace, stop, mark, free}
 use Rattle.hearing.proofs.Verdicts.{open-snoc, ones-more, run-more}
 
 -- after j marks of the gap: a run that long, and a list that was open before the gap and still is

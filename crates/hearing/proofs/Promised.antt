@@ -1,18 +1,17 @@
 -- The promise, over the relations of the calls.
-use mathlib.Core.Bool.{Bool, true, false}
 use mathlib.Core.List.{List, [], _∷_, _++_}
 use mathlib.Core.Path.{_≡_, refl, sym, subst, ap, _∙_}
-use Prim.Native.Nat.{ℕ, zero, suc, min, _+_, _≤_, _<_}
+use Prim.Native.Nat.{ℕ, min, _≤_}
 use native.Mathlib.Omega.{arith}
 use lib.ListN.{drop, length}
 use Rattle.std.specs.declared.result.Result.{Result}
 use Rattle.std.specs.declared.result.Result.the-variants.{Ok, Err}
 use Rattle.lines.specs.declared.mark.Mark.{Mark}
-use Rattle.lines.specs.declared.mark.Mark.the-variants.{Zero, One, Bad}
+use Rattle.lines.specs.declared.mark.Mark.the-variants.{Zero}
 use Rattle.formats.specs.Laws.{Lawful, Laws, Model, Reads}
 use Rattle.formats.specs.Marks.{Altered, Quiet, behind-first, ones}
 use Rattle.formats.specs.Verdicts.{Cause, FaultAlong}
-use Rattle.hearing.specs.Calls.{Begun, Brings, Listened, Listens, Over, Quietly, Released}
+use Rattle.hearing.specs.Calls.{Begun, Brings, Listened, Over, Quietly, Released}
 use Rattle.hearing.specs.Promise.{Chain, Entry, HandedOver, NothingHandedOver, Promise, Promised, TookAMark, WasFreed, World}
 use Rattle.hearing.specs.Rules.{Hearer, ready, waiting}
 use Rattle.hearing.specs.declared.answer.Ending.{Ending}

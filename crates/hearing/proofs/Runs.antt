@@ -1,8 +1,8 @@
 -- The run along a trace.
 use mathlib.Core.Bool.{Bool, true, false, cond}
 use mathlib.Core.List.{List, [], _∷_, _++_}
-use mathlib.Core.Path.{_≡_, refl, sym, subst, ap, _∙_}
-use Prim.Native.Nat.{ℕ, zero, suc, min, _+_, _≤_, _<_}
+use mathlib.Core.Path.{_≡_, refl, ap, _∙_}
+use Prim.Native.Nat.{ℕ, suc, min}
 use native.Mathlib.Omega.{arith}
 use borrow.Author.Tests.{ltb-true, ltb-false}
 use lib.Dec.{ltb}
@@ -12,7 +12,7 @@ use Rattle.lines.specs.declared.mark.Mark.the-variants.{Zero, One, Bad}
 use Rattle.formats.specs.Laws.{Model}
 use Rattle.formats.specs.Verdicts.{Verdict, open-list, tells, frame-of, fault-of}
 use Rattle.hearing.specs.Promise.{Entry, ones-at-end}
-use Rattle.hearing.specs.Rules.{Hearer, Stage, by-stage, comes-to, hears, holding, ready, run-after, waiting, within}
+use Rattle.hearing.specs.Rules.{Hearer, Stage, by-stage, comes-to, holding, ready, run-after, waiting, within}
 use Rattle.hearing.proofs.Traces.{Trace, stop, mark, free}
 
 -- the run after marks

@@ -1,27 +1,26 @@
 -- A chain of calls, mark by mark.
 use mathlib.Core.Bool.{Bool, true, false, cond}
 use mathlib.Core.List.{List, [], _∷_, _++_}
-use mathlib.Core.Logic.{_⊎_, inl, inr}
+use mathlib.Core.Logic.{inl, inr}
 use mathlib.Core.Path.{_≡_, refl, sym, subst, ap, _∙_}
-use Prim.Native.Nat.{ℕ, zero, suc, _+_, _≤_, _<_}
+use Prim.Native.Nat.{ℕ, suc, _≤_}
 use native.Mathlib.Omega.{arith}
 use lib.Dec.{ltb}
-use lib.ListN.{drop, length, set, take}
-use Rattle.std.proofs.shelf.Lists.{append-assoc, length-append, length-set}
+use lib.ListN.{length, take}
+use Rattle.std.proofs.shelf.Lists.{length-set}
 use Rattle.std.specs.declared.result.Result.{Result}
 use Rattle.std.specs.declared.result.Result.the-variants.{Ok, Err}
 use Rattle.lines.specs.declared.mark.Mark.{Mark}
 use Rattle.lines.specs.declared.mark.Mark.the-variants.{Zero, One, Bad}
 use Rattle.formats.specs.Laws.{Model}
 use Rattle.formats.specs.Verdicts.{Cause, Verdict, open-list, tells, frame-of, fault-of}
-use Rattle.hearing.specs.Calls.{Brings, Ends, Freed, Listened, Listens, Quietly, Released, Unchanged}
+use Rattle.hearing.specs.Calls.{Brings, Ends, Listened, Quietly, Released, Unchanged}
 use Rattle.hearing.specs.Promise.{Chain, Entry, World, handed, last-note, no-frame, noted, notes, none, listen, look, release, ask}
-use Rattle.hearing.specs.Rules.{Event, Hearer, Sound, Stage, Step, by-stage, comes-to, fault, frame, hears, holding, judged, nothing, ready, resting, run-after, state-of, waiting, within}
+use Rattle.hearing.specs.Rules.{Event, Hearer, Sound, Stage, Step, by-stage, comes-to, fault, frame, hears, holding, nothing, ready, state-of, waiting, within}
 use Rattle.hearing.specs.declared.answer.Ending.{Ending}
 use Rattle.hearing.specs.declared.answer.Ending.the-variants as ending
 use Rattle.hearing.specs.declared.answer.Heard.{Heard}
 use Rattle.hearing.specs.declared.answer.Standing.{Standing}
-use Rattle.hearing.specs.declared.answer.State.{State}
 use Rattle.hearing.specs.declared.answer.State.the-variants as state
 use Rattle.hearing.specs.declared.refusal.ReceiverRefusal.{ReceiverRefusal}
 use Rattle.hearing.specs.declared.refusal.ReceiverRefusal.the-variants.{ShortBuffer, Holding, NotHolding}

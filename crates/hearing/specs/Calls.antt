@@ -17,7 +17,6 @@ use Rattle.hearing.specs.declared.answer.Ending.{Ending}
 use Rattle.hearing.specs.declared.answer.Ending.the-variants as ending
 use Rattle.hearing.specs.declared.answer.Heard.{Heard}
 use Rattle.hearing.specs.declared.answer.Standing.{Standing}
-use Rattle.hearing.specs.declared.answer.State.{State}
 use Rattle.hearing.specs.declared.answer.State.the-variants as state
 use Rattle.hearing.specs.declared.refusal.ReceiverRefusal.{ReceiverRefusal}
 use Rattle.hearing.specs.declared.refusal.ReceiverRefusal.the-variants.{ShortBuffer, Holding, NotHolding}

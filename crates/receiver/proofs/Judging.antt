@@ -2,7 +2,7 @@
 use mathlib.Core.Bool.{Bool, true, false, cond}
 use mathlib.Core.List.{List, [], _∷_, _++_}
 use mathlib.Core.Path.{_≡_, refl, sym, subst, ap, _∙_}
-use Prim.Native.Nat.{ℕ, suc, _+_, _%_, _≤_, _<_}
+use Prim.Native.Nat.{ℕ, _+_, _%_, _<_}
 use native.Mathlib.Omega.{arith}
 use lib.Dec.{ltb}
 use lib.ListN.{length, set}
@@ -19,12 +19,11 @@ use Rattle.formats.specs.Verdicts.{Cause, Open, OpenAlong, Verdict, fault-of, f
 use Rattle.formats.specs.declared.format.Progress.{Progress}
 use Rattle.formats.specs.declared.format.Progress.the-variants as progress
 use Rattle.hearing.proofs.Verdicts.{open-snoc, told-snoc}
-use Rattle.hearing.specs.Rules.{Hearer, Sound, comes-to, count-told, judged, ready, waiting, within}
+use Rattle.hearing.specs.Rules.{Sound, comes-to, count-told, judged, ready, waiting, within}
 use Rattle.hearing.specs.Rules as rules
 use Rattle.hearing.specs.declared.fault.ReceiverFault.{ReceiverFault}
 use Rattle.receiver.specs.Places.{At, kept, list-at}
 use Rattle.receiver.specs.Steps.{JudgedAs, Judges}
-use Rattle.receiver.specs.declared.receiver.Receiver.{Receiver}
 use Rattle.receiver.specs.declared.receiver.Stage.{Stage}
 use Rattle.receiver.specs.declared.receiver.Stage.the-variants as stage
 

@@ -1,11 +1,11 @@
 -- Marks taken one after the other in a listen.
 use mathlib.Core.List.{List, [], _∷_, _++_}
-use mathlib.Core.Logic.{_⊎_, inl, inr}
+use mathlib.Core.Logic.{inl, inr}
 use mathlib.Core.Path.{_≡_, refl, sym, subst, ap, _∙_}
-use Prim.Native.Nat.{ℕ, suc, _+_, _≤_, _<_}
+use Prim.Native.Nat.{ℕ, _+_, _≤_, _<_}
 use native.Mathlib.Omega.{arith}
 use lib.ListN.{length}
-use Rattle.std.proofs.shelf.Lists.{append-assoc, append-nil, length-push}
+use Rattle.std.proofs.shelf.Lists.{append-assoc, length-push}
 use Rattle.std.specs.declared.option.Option.{Option}
 use Rattle.std.specs.declared.option.Option.the-variants.{Some, None}
 use Rattle.lines.specs.declared.mark.Mark.{Mark}
@@ -15,7 +15,6 @@ use Rattle.hearing.specs.Calls.{Brings, Ends, Listens, Over, Quietly}
 use Rattle.hearing.specs.Rules.{Hearer, hears, nothing}
 use Rattle.hearing.specs.declared.answer.Ending.{Ending}
 use Rattle.hearing.specs.declared.answer.Ending.the-variants as ending
-use Rattle.hearing.specs.declared.answer.Heard.{Heard}
 use Rattle.hearing.specs.declared.answer.State.the-variants as state
 use Rattle.receiver.specs.Places.{At, model-of, state-kept}
 use Rattle.receiver.specs.Steps.{EndedBy, Loud, Takes}
@@ -48,9 +47,6 @@ pub record Passes {F : Type 0} (model : F → Model) (stands : F → List Mark �
   pub counted : taken ≡ length marks
   pub same-format : model (r′ .format) ≡ model (r .format)
   pub each : (a : Hearer) → At model stands r buffer a → (b : Hearer) × At model stands r′ buffer′ b × Silently (model (r .format)) a marks b
-
-pub passes-none : {F : Type 0} (model : F → Model) (stands : F → List Mark → Type 0) (r : Receiver F) (before : List Mark) (buffer : List ℕ) → Passes model stands r r before before buffer buffer 0
-passes-none model stands r before buffer = record { marks = []; is-taken = refl; counted = refl; same-format = refl; each = λ a p. (a, p, refl) }
 
 module _ {F E : Type 0} (cause : E → Cause) (model : F → Model) (stands : F → List Mark → Type 0) (budget : ℕ) (r r₁ : Receiver F) (before between : List Mark) (buffer buffer₁ : List ℕ) (taken : ℕ) (so-far : Passes model stands r r₁ before between buffer buffer₁ taken) where
   -- no frame and no fault

@@ -1,5 +1,5 @@
 -- One mark taken, by the stage of the receiver.
-use mathlib.Core.List.{List, [], _∷_, _++_}
+use mathlib.Core.List.{List, [], _∷_}
 use mathlib.Core.Path.{_≡_, refl, sym, subst, ap, _∙_}
 use Prim.Native.Nat.{ℕ}
 use native.Mathlib.Omega.{arith}
@@ -11,10 +11,10 @@ use Rattle.formats.specs.Laws.{Model}
 use Rattle.formats.specs.Marks.{Begins}
 use Rattle.formats.specs.Verdicts.{Cause}
 use Rattle.hearing.proofs.Verdicts.{begins-more}
-use Rattle.hearing.specs.Rules.{Hearer, Step, by-stage, count-told, hears, holding, judged, ready, run-after, waiting, within}
+use Rattle.hearing.specs.Rules.{Step, by-stage, count-told, holding, judged, ready, run-after, waiting, within}
 use Rattle.hearing.specs.Rules as rules
 use Rattle.hearing.specs.declared.answer.Ending.{Ending}
-use Rattle.receiver.specs.Places.{At, kept}
+use Rattle.receiver.specs.Places.{At}
 use Rattle.receiver.specs.Steps.{EndedBy, Judges, Takes}
 use Rattle.receiver.specs.declared.receiver.Receiver.{Receiver}
 use Rattle.receiver.specs.declared.receiver.Stage.{Stage}

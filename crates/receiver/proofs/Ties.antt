@@ -1,6 +1,6 @@
 -- What a receiver shows of each hearer that it is at.
 use mathlib.Core.List.{List}
-use mathlib.Core.Path.{_≡_, refl, sym, ap, _∙_}
+use mathlib.Core.Path.{_≡_, refl, ap, _∙_}
 use Prim.Native.Nat.{ℕ}
 use Rattle.lines.specs.declared.mark.Mark.{Mark}
 use Rattle.formats.specs.Laws.{Model}

@@ -1,11 +1,11 @@
-// The receiver.
+// The receiver. Its format is held by value; the line and the frame buffer are handed in to the calls.
 ghost use mathlib.Core.Path.{_≡_};
-ghost use Rattle.std.specs.Results.{Cases};
-ghost use Rattle.std.specs.declared.result.Result.the-variants.{Ok, Err};
-ghost use Rattle.hearing.specs.Calls.{Begun, Listened, Looked, Released};
 ghost use Prim.Native.Nat.{_≤_};
 ghost use lib.ListN.{length};
+ghost use Rattle.std.specs.Results.{Cases};
+ghost use Rattle.std.specs.declared.result.Result.the-variants.{Ok, Err};
 ghost use Rattle.formats.specs.Laws.{Model};
+ghost use Rattle.hearing.specs.Calls.{Begun, Listened, Looked, Released};
 ghost use Rattle.hearing.specs.Rules.{run-after};
 ghost use Rattle.hearing.specs.Rules as rules;
 ghost use Rattle.receiver.specs.Places.{At, kept, model-of, standing-of};
@@ -48,7 +48,8 @@ fn run_after(gap: u16, run: u16, mark: Mark) -> u16
     ensures { λ r. ⌜ r ≡ run-after gap run mark ⌝ }
 {
     match mark {
-        Mark::One => { if run < gap { run + 1 } else { gap } }
+        Mark::One if run < gap => run + 1,
+        Mark::One => gap,
         _ => 0,
     }
 }

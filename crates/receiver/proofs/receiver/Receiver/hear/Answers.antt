@@ -1,4 +1,4 @@
-use mathlib.Core.Path.{_≡_, ap, _∙_}
+use mathlib.Core.Path.{ap, _∙_}
 use Rattle.hearing.specs.Rules.{run-after}
 use Rattle.receiver.proofs.Taking.{takes-first, takes-open}
 use Rattle.receiver.proofs.receiver.Receiver.hear.Needs as need

@@ -1,9 +1,9 @@
 use mathlib.Core.Path.{_≡_, refl, subst, sym, _∙_}
-use Prim.Native.Nat.{_+_, _≤_, _<_}
+use Prim.Native.Nat.{_+_, _≤_}
 use native.Mathlib.Omega.{arith}
 use lib.ListN.{length}
 use Rattle.hearing.specs.declared.answer.Ending.the-variants as ending
-use Rattle.receiver.proofs.Listening.{Passes, ends-loudly, ends-quietly, not-held, passes-more, passes-none}
+use Rattle.receiver.proofs.Listening.{Passes, ends-loudly, ends-quietly, not-held, passes-more}
 use Rattle.receiver.proofs.receiver.Receiver.listen.Needs as need
 
 -- the line is empty
