@@ -20,7 +20,7 @@ use Rattle.commands.specs.declared.command.Order.the-variants.{Take}
 use Rattle.commands.specs.declared.misread.Misread.{Misread}
 use Rattle.commands.specs.declared.misread.Misread.the-variants.{BadNumber}
 use Rattle.commands.specs.declared.misread.NumberFault.{NumberFault}
-use Rattle.commands.specs.declared.record.RecordKind.{RecordKind}
+use Rattle.stacks.specs.declared.record.RecordKind.{RecordKind}
 use Rattle.commands.proofs.Cutting.{first-of}
 
 -- what `split_whitespace` says of its first item, at the word that it was found to be

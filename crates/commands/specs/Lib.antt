@@ -1,6 +1,3 @@
-pub mod Layering
-pub mod Stacks
-pub mod Records
 pub mod Octets
 pub mod Orders
 pub mod Texts

@@ -11,15 +11,15 @@ use Rattle.std.specs.declared.option.Option.the-variants.{Some}
 use Rattle.lines.specs.declared.mark.Mark.{Mark}
 use Rattle.lines.specs.declared.sampling.Kept.{Kept}
 use Rattle.lines.specs.declared.sampling.Kept.the-variants.{Nothing}
-use Rattle.commands.specs.Layering.{through}
-use Rattle.commands.specs.Stacks.{TookMarks, layers-on, uncovered}
+use Rattle.stacks.specs.Layering.{through}
+use Rattle.stacks.specs.Stacks.{TookMarks, layers-on, uncovered}
 use Rattle.commands.specs.declared.answer.Answer.{Answer}
 use Rattle.commands.specs.declared.answer.Answer.the-variants as answer
 use Rattle.commands.specs.declared.answer.Setup.{Setup}
 use Rattle.commands.specs.declared.command.Order.{Order}
 use Rattle.commands.specs.declared.command.Order.the-variants as order
-use Rattle.commands.specs.declared.record.RecordKind.{RecordKind}
-use Rattle.commands.specs.declared.stack.Stack.{Stack}
+use Rattle.stacks.specs.declared.record.RecordKind.{RecordKind}
+use Rattle.stacks.specs.declared.stack.Stack.{Stack}
 
 -- the description names the layers, uppermost first, and the record
 abbrev pub Describes : {L : Type 0} → RecordKind → Stack L → Setup → Type 0

@@ -15,7 +15,7 @@ use Rattle.commands.specs.declared.misread.Misread.{Misread}
 use Rattle.commands.specs.declared.misread.Misread.the-variants.{BadNumber, BadOctet, ExtraWord, NoMemory}
 use Rattle.commands.specs.declared.misread.NumberFault.{NumberFault}
 use Rattle.commands.specs.declared.misread.NumberFault.the-variants.{NotDecimal, TooLarge}
-use Rattle.commands.specs.declared.record.RecordKind.{RecordKind}
+use Rattle.stacks.specs.declared.record.RecordKind.{RecordKind}
 
 -- the word that is named is one too many
 abbrev pub Extra : List ℕ → Misread → Type 0

@@ -17,13 +17,13 @@ use Rattle.commands.specs.declared.command.Command.{Command}
 use Rattle.commands.specs.declared.command.Command.the-variants.{Choose, Work}
 use Rattle.commands.specs.declared.command.Order.{Order}
 use Rattle.commands.specs.declared.command.Order.the-variants as order
-use Rattle.commands.specs.declared.layer.Layer.the-variants as layer
+use Rattle.stacks.specs.declared.layer.Layer.the-variants as layer
 use Rattle.commands.specs.declared.misread.Misread.{Misread}
 use Rattle.commands.specs.declared.misread.Misread.the-variants.{UnknownCommand, BadOctet, BadNumber, ExtraWord, NoMemory}
 use Rattle.commands.specs.declared.misread.NumberFault.{NumberFault}
 use Rattle.commands.specs.declared.misread.NumberFault.the-variants.{Missing, NotDecimal, TooLarge}
-use Rattle.commands.specs.declared.record.RecordKind.{RecordKind}
-use Rattle.commands.specs.declared.record.RecordKind.the-variants as kind
+use Rattle.stacks.specs.declared.record.RecordKind.{RecordKind}
+use Rattle.stacks.specs.declared.record.RecordKind.the-variants as kind
 
 -- the text is white space, the word, and the rest, which is empty or begins with white space
 pub record First (text word rest : List ℕ) : Type 0 where

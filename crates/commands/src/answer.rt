@@ -1,9 +1,9 @@
 // What the console answers.
-use crate::layer::Layers;
-use crate::record::RecordKind;
 use lines::mark::Mark;
 use lines::refusal::RecordRefusal;
 use lines::sampling::Kept;
+use stacks::layer::Layers;
+use stacks::record::RecordKind;
 
 // A line described: its layers and the kind of its record.
 #[derive(Clone, Copy)]

@@ -1,12 +1,8 @@
 // The language of the console: commands read from lines of text, and what they do to a line of marks.
 pub mod answer;
 pub mod command;
-pub mod layer;
-pub mod layered;
 pub mod misread;
 pub mod octet;
-pub mod record;
-pub mod stack;
 #[cfg(test)]
 mod tests;
 pub mod work;

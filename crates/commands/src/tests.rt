@@ -2,16 +2,16 @@ use crate::command::Command;
 use crate::command::Order;
 use crate::command::OrderDebug;
 use crate::command::OrderPartialEq;
-use crate::layer::Layer;
 use crate::octet::octet;
-use crate::record::Record;
-use crate::record::RecordKind;
-use crate::record::RecordLine;
-use crate::stack::Stack;
 use lines::mark::Mark;
 use lines::mark::MarkDebug;
 use lines::mark::MarkPartialEq;
 use lines::refusal::RecordRefusalDebug;
+use stacks::layer::Layer;
+use stacks::record::Record;
+use stacks::record::RecordKind;
+use stacks::record::RecordLine;
+use stacks::stack::Stack;
 use std::test::*;
 
 #[test]

@@ -1,14 +1,14 @@
 // What the orders do at a line.
 ghost use mathlib.Core.Path.{_≡_};
 ghost use Rattle.commands.specs.Orders.{Obeyed, Took};
-ghost use Rattle.commands.specs.Stacks.{layers-on, stacked};
+ghost use Rattle.stacks.specs.Stacks.{layers-on, stacked};
 use crate::answer::Answer;
 use crate::answer::Setup;
 use crate::command::Order;
-use crate::record::RecordKind;
-use crate::stack::Stack;
-use crate::stack::StackLine;
 use lines::line::Line;
+use stacks::record::RecordKind;
+use stacks::stack::Stack;
+use stacks::stack::StackLine;
 use std::alloc::Global;
 
 // The line after an order, and the answer.

@@ -1,11 +1,11 @@
 // The console: each line of standard input is a command, and is answered by one line.
 use commands::answer::Answer;
 use commands::command::Command;
-use commands::record::Record;
-use commands::record::RecordKind;
-use commands::record::RecordLine;
-use commands::stack::Stack;
 use commands::work::obey;
+use stacks::record::Record;
+use stacks::record::RecordKind;
+use stacks::record::RecordLine;
+use stacks::stack::Stack;
 use std::io;
 use std::io::BufRead;
 use std::io::BufReader;

@@ -1,13 +1,13 @@
 // The answers and messages in text.
 use commands::answer::Answer;
 use commands::answer::Setup;
-use commands::layer::Layer;
 use commands::misread::Misread;
 use commands::misread::NumberFault;
-use commands::record::RecordKind;
 use lines::mark::Mark;
 use lines::refusal::RecordRefusal;
 use lines::sampling::Kept;
+use stacks::layer::Layer;
+use stacks::record::RecordKind;
 use std::fmt;
 
 // A value as it is shown.

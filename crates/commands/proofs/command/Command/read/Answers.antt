@@ -1,6 +1,6 @@
 use Rattle.commands.specs.declared.command.Order.the-variants as order
-use Rattle.commands.specs.declared.layer.Layer.the-variants as layer
-use Rattle.commands.specs.declared.record.RecordKind.the-variants as kind
+use Rattle.stacks.specs.declared.layer.Layer.the-variants as layer
+use Rattle.stacks.specs.declared.record.RecordKind.the-variants as kind
 use Rattle.commands.proofs.Naming.{named, said-alone, said-chosen, said-take}
 use Rattle.commands.proofs.command.Command.read.Needs as need
 

@@ -4,10 +4,10 @@ use Rattle.lines.specs.declared.mark.Mark.{Mark}
 use Rattle.lines.specs.declared.sampling.Kept.{Kept}
 use Rattle.lines.specs.declared.sampling.Kept.the-variants.{Nothing}
 use Rattle.lines.specs.Layers.{exchanged, held, threes}
-use Rattle.commands.specs.declared.layer.Layer.{Layer}
-use Rattle.commands.specs.declared.layer.Layer.the-variants as layer
-use Rattle.commands.specs.declared.layered.Layered.{Layered}
-use Rattle.commands.specs.declared.layered.Layered.the-variants.{Bare, Reversal, Sampling}
+use Rattle.stacks.specs.declared.layer.Layer.{Layer}
+use Rattle.stacks.specs.declared.layer.Layer.the-variants as layer
+use Rattle.stacks.specs.declared.layered.Layered.{Layered}
+use Rattle.stacks.specs.declared.layered.Layered.the-variants.{Bare, Reversal, Sampling}
 
 -- what a layer gives of the marks that come to it
 abbrev pub through : Layer → List Mark → List Mark

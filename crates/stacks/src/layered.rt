@@ -2,7 +2,7 @@
 ghost use mathlib.Core.List.{[], _∷_};
 ghost use mathlib.Core.Path.{_≡_};
 ghost use Rattle.std.specs.Vec.{listOf};
-ghost use Rattle.commands.specs.Layering.{layered, layer-on, below-of, kept-of};
+ghost use Rattle.stacks.specs.Layering.{layered, layer-on, below-of, kept-of};
 ghost use Rattle.lines.specs.declared.sampling.Kept.the-variants.{Nothing};
 ghost use Rattle.lines.specs.Taking.{Taken};
 use crate::layer::Layer;

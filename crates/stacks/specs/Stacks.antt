@@ -9,12 +9,12 @@ use Rattle.lines.specs.declared.mark.Mark.{Mark}
 use Rattle.lines.specs.declared.sampling.Kept.{Kept}
 use Rattle.lines.specs.declared.sampling.Kept.the-variants.{Nothing}
 use Rattle.lines.specs.Layers.{exchanged, held, threes}
-use Rattle.commands.specs.Layering.{layered, layer-on, through}
-use Rattle.commands.specs.declared.layer.Layer.{Layer}
-use Rattle.commands.specs.declared.layer.Layer.the-variants as layer
-use Rattle.commands.specs.declared.layered.Layered.the-variants as upper
-use Rattle.commands.specs.declared.stack.Stack.{Stack}
-use Rattle.commands.specs.declared.stack.Stack.the-variants.{Bare, OverReversal, OverSampling}
+use Rattle.stacks.specs.Layering.{layered, layer-on, through}
+use Rattle.stacks.specs.declared.layer.Layer.{Layer}
+use Rattle.stacks.specs.declared.layer.Layer.the-variants as layer
+use Rattle.stacks.specs.declared.layered.Layered.the-variants as upper
+use Rattle.stacks.specs.declared.stack.Stack.{Stack}
+use Rattle.stacks.specs.declared.stack.Stack.the-variants.{Bare, OverReversal, OverSampling}
 
 -- what is still to come, by the list of the line below all layers
 abbrev pub stacked : {L : Type 0} → (L → List Mark) → Stack L → List Mark

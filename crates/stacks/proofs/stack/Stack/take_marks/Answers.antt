@@ -2,8 +2,8 @@ use mathlib.Core.List.{_++_, _∷_, [], append-assoc}
 use mathlib.Core.Path.{_≡_, ap, sym, _∙_}
 use native.Mathlib.Omega.{arith}
 use Rattle.std.specs.Of.Vec.{vec-items}
-use Rattle.commands.specs.Stacks.{stacked}
-use Rattle.commands.proofs.stack.Stack.take_marks.Needs as need
+use Rattle.stacks.specs.Stacks.{stacked}
+use Rattle.stacks.proofs.stack.Stack.take_marks.Needs as need
 
 pub loop-taken-again : need.loop-taken-again
 loop-taken-again g c =

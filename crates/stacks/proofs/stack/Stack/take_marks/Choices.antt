@@ -2,8 +2,8 @@ use mathlib.Core.List.{_++_}
 use mathlib.Core.Path.{_≡_}
 use Prim.Native.Nat.{_≤_}
 use Rattle.std.specs.Of.Vec.{vec-items, vec-len, vec-cap}
-use Rattle.commands.specs.Stacks.{stacked, layers-on}
-use Rattle.commands.proofs.stack.Stack.take_marks.Given as given
+use Rattle.stacks.specs.Stacks.{stacked, layers-on}
+use Rattle.stacks.proofs.stack.Stack.take_marks.Given as given
 
 -- the marks so far, and what is then to come, are what was to come at first
 abbrev pub Inv-loop-taken : given.InvT-loop-taken

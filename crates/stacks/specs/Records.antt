@@ -5,10 +5,10 @@ use denote.Ref.{now}
 use Rattle.lines.specs.declared.mark.Mark.{Mark}
 use Rattle.lines.specs.Records.{mark-of}
 use Rattle.lines.specs.Entries.{left-from, entries}
-use Rattle.commands.specs.declared.record.RecordKind.{RecordKind}
-use Rattle.commands.specs.declared.record.RecordKind.the-variants as kind
-use Rattle.commands.specs.declared.record.Record.{Record}
-use Rattle.commands.specs.declared.record.Record.the-variants.{Marks, Characters}
+use Rattle.stacks.specs.declared.record.RecordKind.{RecordKind}
+use Rattle.stacks.specs.declared.record.RecordKind.the-variants as kind
+use Rattle.stacks.specs.declared.record.Record.{Record}
+use Rattle.stacks.specs.declared.record.Record.the-variants.{Marks, Characters}
 
 -- what a record still has to give
 abbrev pub recorded : Record → List Mark

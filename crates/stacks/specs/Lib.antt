@@ -1,0 +1,3 @@
+pub mod Layering
+pub mod Stacks
+pub mod Records
