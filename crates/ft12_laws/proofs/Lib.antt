@@ -1,0 +1,9 @@
+pub mod Worked
+pub mod Bits
+pub mod Steps
+pub mod Counts
+pub mod Frames
+pub mod Heard
+pub mod Bounds
+pub mod Gaps
+pub mod Laws

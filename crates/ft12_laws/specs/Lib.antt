@@ -1,0 +1,5 @@
+pub mod Faults
+pub mod Frames
+pub mod Reading
+pub mod Machine
+pub mod Worked
