@@ -1,0 +1,11 @@
+pub mod Worked
+pub mod Bits
+pub mod Steps
+pub mod Blocks
+pub mod Chains
+pub mod Counts
+pub mod Alterations
+pub mod Only
+pub mod Bounds
+pub mod Agreement
+pub mod Laws

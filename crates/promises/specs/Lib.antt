@@ -1,0 +1,2 @@
+pub mod Ft12Receivers
+pub mod Ft2Receivers
