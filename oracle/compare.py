@@ -2,10 +2,10 @@
 """Plays random scripts through the console and compares every answer with the second implementation's.
 
 usage: compare.py CONSOLE [--seed S] [--scripts N] [--lines L]
-       compare.py --write STDIN STDOUT [--seed S] [--lines L]
+       compare.py --write STDIN STDOUT [--seed S] [--lines L] [--first FILE]
 
 The first form runs N scripts of L commands each, from the seeds S, S + 1, ..; the first difference is printed with its
-script. The second writes one script and its answers into files.
+script. The second writes a script and its answers into files: the lines of FILE, the directed cases, and one random script.
 """
 
 import argparse
@@ -46,9 +46,14 @@ def main():
     parser.add_argument('--scripts', type=int, default=100)
     parser.add_argument('--lines', type=int, default=200)
     parser.add_argument('--write', nargs=2, metavar=('STDIN', 'STDOUT'))
+    parser.add_argument('--first')
     args = parser.parse_args()
     if args.write:
-        script = scripts.Maker(args.seed).script(args.lines)
+        script = []
+        if args.first:
+            with open(args.first, encoding='ascii') as first:
+                script = first.read().splitlines()
+        script += scripts.cases() + scripts.Maker(args.seed).script(args.lines)
         for path, lines in zip(args.write, (script, answers(script))):
             with open(path, 'w', encoding='ascii') as out:
                 out.writelines(line + '\n' for line in lines)

@@ -178,3 +178,42 @@ class Maker:
         while len(out) < lines:
             out += self.part()
         return out[:lines]
+
+
+def octets_of(marks):
+    return Maker.hexed([int(m) if m != model.BAD else 2 for m in marks])
+
+
+def cut_at_every_mark(settings, form, kind, octets):
+    """A frame behind a gap, with the first listen's budget ending at each of its marks."""
+    frame = form.frame(kind, octets)
+    line = 'marks ' + octets_of(['1'] * form.gap + frame)
+    out = [f'# {settings}: a frame cut at every mark', settings]
+    for cut in range(len(frame) + 1):
+        out += ['receiver', line, f'listen {form.gap + cut}', 'state', 'listen 65535', 'look', 'release']
+    return out
+
+
+def every_state_before_the_gap(settings, form, kind, octets):
+    """Waiting, ready, open, holding and after a fault, each with noise; then a gap and a frame."""
+    gap, frame = ['1'] * form.gap, form.frame(kind, octets)
+    broken = frame[:-2] + [model.BAD]
+    befores = {
+        'waiting': ['0', '1', model.BAD], 'ready': gap + ['1'], 'open': gap + frame[:len(frame) // 2],
+        'holding': gap + frame, 'after a fault': gap + broken + ['0', '1', '0'], 'a gap one mark short': gap + broken + gap[1:] + ['0'],
+    }
+    out = [settings]
+    for name, before in befores.items():
+        out += [f'# {name}', 'receiver', f'marks {octets_of(before)}', 'listen 65535', 'state']
+        out += [f'marks {octets_of(gap + frame)}', 'listen 65535', 'release', 'listen 65535', 'state', 'look', 'release']
+    return out
+
+
+def cases():
+    """Directed cases, the same each time."""
+    ft12, ft2 = model.Ft12(2), model.Ft2(1, 2)
+    out = []
+    for settings, form, kind, octets in (('ft12 2', ft12, 1, [0x49, 0x01]), ('ft2 1 2', ft2, 2, [0x01, 0x05, 0x01])):
+        out += cut_at_every_mark(settings, form, kind, octets)
+        out += every_state_before_the_gap(settings, form, kind, octets)
+    return out

@@ -2,10 +2,8 @@
 ghost use mathlib.Core.List.{List, [], _∷_, _++_};
 ghost use mathlib.Core.Path.{_≡_};
 ghost use Prim.Native.Nat.{ℕ};
-ghost use Rattle.formats.specs.Answers.{Tells};
-ghost use Rattle.formats.specs.Verdicts.{Open};
 ghost use Rattle.std.specs.declared.option.Option.the-variants.{Some};
-ghost use Rattle.ft2_laws.specs.Reading.{Place, Reading, start, user, users, fixed-block, beginning};
+ghost use Rattle.ft2_laws.specs.Reading.{beginning, fixed-block, start, user, users};
 ghost use Rattle.ft2_laws.specs.declared.reading.Block.the-variants.{Header};
 ghost use Rattle.ft2.specs.Standing.{At, BlockJudged, Holds, Judges, StartJudged, Takes, bit-of, at-rest, head-of, position-of};
 use crate::kind::kind_number;
@@ -25,7 +23,7 @@ const BLOCK: u8 = 15;
 
 // The position in a frame of the octet that is being read.
 #[derive(Clone, Copy)]
-pub enum Position {
+pub(crate) enum Position {
     Start,
     // a user octet: its block, and how many octets of the block come after it
     User(Block, u8),
@@ -33,8 +31,9 @@ pub enum Position {
     Check(Block),
 }
 
+// A bounded part of what the list so far holds.
 #[derive(Clone, Copy)]
-pub struct Reader {
+pub(crate) struct Reader {
     position: Position,
     part: Part,
     // the first octet of the block
@@ -77,7 +76,7 @@ fn first_of(first: Option<u8>, octet: u8) -> u8
 
 impl Reader {
     // For the empty list.
-    pub fn new() -> Self
+    pub(crate) fn new() -> Self
         ensures { λ r. ⌜ Holds r (beginning start) ⌝ }
     {
         Reader {
@@ -89,7 +88,7 @@ impl Reader {
     }
 
     // Whether no mark of a frame has come.
-    pub fn is_at_rest(&self) -> bool
+    pub(crate) fn is_at_rest(&self) -> bool
         ensures { λ r. ⌜ r ≡ at-rest (now (self .entry)) ⌝ }
     {
         match self.position {
@@ -102,7 +101,7 @@ impl Reader {
     }
 
     // One mark more. A bad one is a fault; the eighth mark of an octet has the octet judged.
-    pub fn take(&mut self, settings: Settings, mark: Mark) -> Result<Progress, Ft2Fault>
+    pub(crate) fn take(&mut self, settings: Settings, mark: Mark) -> Result<Progress, Ft2Fault>
         ensures { λ r. ⌜ Takes (settings .fixed) (settings .header) (now (self .entry)) mark r (now (self .exit)) ⌝ }
     {
         let bit = bit_of(mark)?;

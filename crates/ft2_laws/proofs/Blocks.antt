@@ -14,7 +14,7 @@ use Rattle.checks.proofs.Octets.{check-octet-lt}
 use Rattle.lines.specs.declared.mark.Mark.{Mark}
 use Rattle.formats.specs.Laws.{Octets}
 use Rattle.formats.specs.Verdicts.{Cause, Verdict, open-list, tells, frame-of, fault-of, Open, Fault, octet-told}
-use Rattle.formats.proofs.Machines.{told}
+use Rattle.formats.proofs.Machines.{Breaks, told}
 use Rattle.ft2_laws.specs.Faults.{faulty}
 use Rattle.ft2_laws.specs.Frames.{check-of, first-octet, marks-of, octet-marks, with-check}
 use Rattle.ft2_laws.specs.Reading.{Place, start, user, check, users, after-block, judge, judge-block, judge-count, next, beginning, ft2-machine}
@@ -118,7 +118,7 @@ module _ (fixed header : ℕ) where
       go (n ∷ ns) l a = absurd (short-no-frame fixed header p First n ns v k (omega arith) a)
   along-octets (whole ms {rest} l c) v p k a = go (octet-or-breaks fixed header p ms rest l) (along-octets c)
     where
-      go : Rattle.formats.proofs.Machines.Breaks (ft2-machine fixed header) (beginning p) (ms ++ rest) ⊎ ((o : ℕ) × (o < 256) × (ms ≡ octet-marks o))
+      go : Breaks (ft2-machine fixed header) (beginning p) (ms ++ rest) ⊎ ((o : ℕ) × (o < 256) × (ms ≡ octet-marks o))
           → ((v : Verdict) (p : Place) (k : ℕ) → Along (ft2-machine fixed header) v (beginning p) rest (frame-of k) → AsOctets v p rest k)
           → AsOctets v p (ms ++ rest) k
       go (inl b) later = absurd (breaks-no-frame (ft2-machine fixed header) (beginning p) (ms ++ rest) v k b a)

@@ -19,7 +19,7 @@ use Rattle.ft2_laws.specs.declared.kind.Kind.{Kind}
 use Rattle.ft2_laws.specs.declared.kind.Kind.the-variants as kind
 use Rattle.ft2_laws.specs.declared.reading.Block.{Block}
 use Rattle.ft2_laws.specs.declared.reading.Block.the-variants.{Fixed, Header, Body}
-use Rattle.ft2_laws.proofs.Blocks.{Then, told-of, block-then, block-told, octets-join, octets-checked}
+use Rattle.ft2_laws.proofs.Blocks.{Then, told-of, block-then, block-told, octets-join, octets-front, octets-back, octets-checked}
 use Rattle.checks.specs.Bits.{block-bits}
 use Rattle.checks.proofs.Octets.{check-octet-lt}
 
@@ -40,7 +40,7 @@ Chain b us (vs ∷ bs) k = (judge-block b us ≡ open-list) × ((c : Block) × (
 pub octets-chained : (us : List ℕ) (bs : List (List ℕ)) → Octets us → Octets (joined bs) → Octets (chained us bs)
 octets-chained us [] a c = octets-checked us a
 octets-chained us (vs ∷ bs) a c =
-    octets-join us (check-of us ∷ chained vs bs) a (check-octet-lt (block-bits us), octets-chained vs bs (Rattle.ft2_laws.proofs.Blocks.octets-front vs (joined bs) c) (Rattle.ft2_laws.proofs.Blocks.octets-back vs (joined bs) c))
+    octets-join us (check-of us ∷ chained vs bs) a (check-octet-lt (block-bits us), octets-chained vs bs (octets-front vs (joined bs) c) (octets-back vs (joined bs) c))
 
 module _ (fixed header : ℕ) where
   pub chain-then : (v : Verdict) (b : Block) (us : List ℕ) (bs : List (List ℕ)) (k : ℕ) → Open v → Chain b us bs k → Then fixed header v (users b [] (length us)) (chained us bs) (frame-of k)

@@ -15,7 +15,7 @@ use Rattle.lines.specs.declared.mark.Mark.the-variants.{Zero, One}
 use Rattle.formats.specs.Laws.{Lawful, Laws, Octets}
 use Rattle.formats.specs.Machine.{Opened, reached}
 use Rattle.formats.specs.Marks.{Altered, Begins, Quiet, behind-first, ones}
-use Rattle.formats.specs.Verdicts.{Verdict, open-list, frame-of, octet-told}
+use Rattle.formats.specs.Verdicts.{Verdict, Open, open-list, frame-of, octet-told}
 use Rattle.formats.proofs.Machines.{Breaks, Judged, MachineLaws, laws-of, opened-join, told}
 use Rattle.ft2_laws.specs.Frames.{count-suits, first-octet, first-suits, frame-marks, frame-octets, gap-marks, headed-kind, is-kind, kind-number, kind-of, marks-of, octet-marks, suits-kind}
 use Rattle.ft2_laws.specs.Reading.{beginning, ft2-machine, ft2-model, judge, next, start, users}
@@ -92,9 +92,9 @@ module _ (fixed header : ℕ) (f-least : 1 ≤ fixed) (f-most : fixed ≤ 30) (h
   framed-then k os f =
       (tt, subst (λ p. Then fixed header (judge start (f .begin)) p (chained (f .octets) (f .others)) (frame-of (kind-number k))) (sym (f .to-block)) (chain-then fixed header (judge start (f .begin)) (f .block) (f .octets) (f .others) (kind-number k) (starts-open (f .begin) (f .starts)) (f .chain)))
     where
-      starts-open : (s : ℕ) → (s ≡ 0x27) ⊎ (s ≡ 0x14) → Rattle.formats.specs.Verdicts.Open (judge start s)
-      starts-open s (inl e) = subst (λ x. Rattle.formats.specs.Verdicts.Open (judge start x)) (sym e) tt
-      starts-open s (inr e) = subst (λ x. Rattle.formats.specs.Verdicts.Open (judge start x)) (sym e) tt
+      starts-open : (s : ℕ) → (s ≡ 0x27) ⊎ (s ≡ 0x14) → Open (judge start s)
+      starts-open s (inl e) = subst (λ x. Open (judge start x)) (sym e) tt
+      starts-open s (inr e) = subst (λ x. Open (judge start x)) (sym e) tt
 
   framed-are : (k : Kind) (os : List ℕ) (f : Framed fixed header k os) → Octets os → Octets (f .begin ∷ chained (f .octets) (f .others))
   framed-are k os f are =
