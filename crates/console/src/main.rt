@@ -2,17 +2,23 @@
 use commands::answer::Answer;
 use commands::command::Command;
 use commands::work::obey;
+use desk::desk::Desk;
+use desk::reading::read;
 use stacks::record::Record;
 use stacks::record::RecordKind;
 use stacks::record::RecordLine;
 use stacks::stack::Stack;
+use stacks::stack::StackLine;
 use std::io;
 use std::io::BufRead;
 use std::io::BufReader;
 use std::io::Stdin;
 use std::str::from_utf8;
 use text::AnswerText;
+use text::DeskMisreadText;
 use text::MisreadText;
+use text::Report;
+use text::ReportText;
 use text::Text;
 
 mod text;
@@ -24,14 +30,16 @@ struct Choice {
     octets: Vec<u8>,
 }
 
-// Answers commands at a record, until another is chosen or the input ends.
+// Answers commands at a record, until another is chosen or the input ends. The desk stays from record to record.
 fn serve(
     rt: &LibcRuntime,
     input: &mut BufReader<Stdin>,
     kind: RecordKind,
     record: Record<'_>,
-) -> io::Result<Option<Choice>> {
+    desk: Desk,
+) -> io::Result<Option<(Choice, Desk)>> {
     let heap = rt.alloc();
+    let mut desk = desk;
     let mut line = Stack::Bare(record);
     for _ in 0..u64::MAX {
         let mut typed = Vec::new(heap);
@@ -42,13 +50,28 @@ fn serve(
             println!(rt, "error: not text")?;
             continue;
         };
+        if let Some(said) = read(heap, text) {
+            match said {
+                Ok(order) => {
+                    let (next, answer) = desk.obey(heap, &mut line, order);
+                    desk = next;
+                    rt.println(Text(Report {
+                        answer,
+                        marks: desk.marks(),
+                        frame: desk.frame(),
+                    }))?;
+                }
+                Err(misread) => rt.println(Text(misread))?,
+            }
+            continue;
+        }
         match Command::read(heap, text) {
             Ok(Command::Choose(kind, octets)) => {
                 let count = octets.len();
                 match Record::new(kind, octets.as_slice()) {
                     Ok(_) => {
                         rt.println(Text(Answer::Chosen(kind, count)))?;
-                        return Ok(Some(Choice { kind, octets }));
+                        return Ok(Some((Choice { kind, octets }, desk)));
                     }
                     Err(refusal) => rt.println(Text(Answer::Refused(refusal)))?,
                 }
@@ -70,13 +93,17 @@ fn main(rt: LibcRuntime) -> io::Result<()> {
         kind: RecordKind::Marks,
         octets: Vec::new(rt.alloc()),
     };
+    let mut desk = Desk::new(rt.alloc())?;
     for _ in 0..u64::MAX {
         // what was chosen is no record that is refused
         let Ok(record) = Record::new(choice.kind, choice.octets.as_slice()) else {
             break;
         };
-        match serve(&rt, &mut input, choice.kind, record)? {
-            Some(next) => choice = next,
+        match serve(&rt, &mut input, choice.kind, record, desk)? {
+            Some((next, same)) => {
+                choice = next;
+                desk = same;
+            }
             None => break,
         }
     }

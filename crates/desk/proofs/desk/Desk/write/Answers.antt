@@ -1,0 +1,20 @@
+use mathlib.Core.List.{List}
+use mathlib.Core.Path.{_≡_, refl, sym, subst}
+use native.Mathlib.Omega.{arith}
+use Prim.Native.Nat.{ℕ}
+use denote.Ref.{now}
+use lib.ListN.{length}
+use Rattle.std.proofs.shelf.Lists.{refilled-is}
+use Rattle.std.specs.Of.Vec.{vec-items, vec-len}
+use Rattle.desk.specs.Hearings.{Wrote}
+use Rattle.desk.proofs.desk.Desk.write.Needs as need
+
+-- the mark buffer holds what the writer left in it
+pub returns : need.returns
+returns c =
+    let call = c .write-answer in
+    let lent = c .as-mut-slice .ensures in
+    let marks = c .args .self .marks in
+    let long : length (call .last .marks) ≡ vec-len marks = omega (arith, call .kept .marks, lent .len) in
+    let P : List ℕ → List ℕ → Type 0 = λ xs ys. Wrote (c .args .self .hearing) (c .args .kind) (now (c .args .octets)) xs ys (call .result) in
+    (subst (P (vec-items marks)) (sym (refilled-is marks (call .last .marks) long)) (subst (λ xs. P xs (call .last .marks)) (lent .value) (call .ensures)), refl, refl)

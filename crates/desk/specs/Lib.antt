@@ -1,0 +1,5 @@
+pub mod Answers
+pub mod Calls
+pub mod Hearings
+pub mod Orders
+pub mod Texts
