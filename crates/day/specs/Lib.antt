@@ -1,0 +1,4 @@
+pub mod Batches
+pub mod Decoding
+pub mod Hearing
+pub mod Layered
