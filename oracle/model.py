@@ -1,6 +1,6 @@
 """A second implementation of marks, records, layers, FT1.2, FT2, the writers and the receiver.
 
-Written from docs/ alone. It shares no code and no table with the library, and takes other ways where it can: readers are
+Written from the rules that docs/ tells. It shares no code and no table with the library, and takes other ways where it can: readers are
 coroutines over marks, and check octets come from long division of whole numbers.
 """
 
