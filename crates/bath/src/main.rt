@@ -1,4 +1,5 @@
 // The lab terminal: keyed bath results on standard input, one a line, become FT2 marks on standard output.
+#![tactic(auto)]
 
 use anyhow::anyhow;
 use ft2::format::Ft2;

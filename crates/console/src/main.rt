@@ -1,4 +1,6 @@
 // The console: each line of standard input is a command, and is answered by one line.
+#![tactic(auto)]
+
 use commands::answer::Answer;
 use commands::command::Command;
 use commands::work::obey;

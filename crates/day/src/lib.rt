@@ -1,4 +1,6 @@
 // What a day's captures of the line and of the lab come to.
+#![tactic(auto)]
+
 pub mod batches;
 pub mod decode;
 pub mod entry;

@@ -1,4 +1,6 @@
 // The frame format FT1.2 of IEC 60870-5-1: a reader that works mark by mark, and a writer.
+#![tactic(auto)]
+
 mod characters;
 pub mod format;
 mod frames;

@@ -1,5 +1,7 @@
 // Long noise through one receiver of each format, with a frame behind a quiet gap at the end of each round.
 // Words: how many rounds, and the seed of the noise.
+#![tactic(auto)]
+
 use anyhow::anyhow;
 use formats::fault::Fault;
 use formats::format::{ReadFormat, WriteFormat};

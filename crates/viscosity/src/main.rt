@@ -1,4 +1,6 @@
 // Sets the line against the lab: a day's capture of each, heard by one receiver each, batch by batch.
+#![tactic(auto)]
+
 use anyhow::anyhow;
 use day::batches::{last_reading, next_row};
 use day::entry::{Entry, Site};

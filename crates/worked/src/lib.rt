@@ -1,4 +1,6 @@
 // Frames, checks and receiver cases worked by hand, shown true of the definitions.
+#![tactic(auto)]
+
 ghost use Rattle.std.specs.Prelude.{◌≡◌};
 ghost use Rattle.worked.specs.Cases.{AllWorked};
 

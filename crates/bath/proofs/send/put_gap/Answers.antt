@@ -7,6 +7,6 @@ use Rattle.bath.proofs.send.put_gap.Goals as goal
 
 pub returns : goal.returns
 returns g c =
-    let h = c.in-ok-gap.ensures in
+    let h = c.in_ok-gap.ensures in
     let gap = (g.W.ReadFormat.model c.args.format.now).gap in
-    appended (ones gap) c.args.buffer.now c.write-gap.new.marks c.in-ok-gap.gap (vec_items c.args.marks.now) _ (h.0 ∙ sym (length-replicate gap One)) h.2 c.in-ok-extend-from-slice.ensures.items
+    appended (ones gap) c.args.buffer.now c.write_gap.new.marks c.in_ok-gap.gap (vec_items c.args.marks.now) _ (h.0 ∙ sym (length-replicate gap One)) h.2 c.in_ok-extend_from_slice.ensures.items

@@ -12,7 +12,7 @@ loop-octet-preserved c =
     let block = c.args.block.now in
     let i = c.loop-octet.octet-index in
     let longer = ap block_bits (take_more block i 0 c.loop-octet-test.true) ∙ block_push (take i block) (get_or block i 0) in
-    subst (Stands c.take-octet.new.self) (sym longer) (c.take-octet.ensures (block_bits (take i block)) c.loop-octet.invariant)
+    subst (Stands c.take_octet.new.self) (sym longer) (c.take_octet.ensures (block_bits (take i block)) c.loop-octet.invariant)
 
 pub returns : goal.returns
 returns c =

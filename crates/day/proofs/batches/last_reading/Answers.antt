@@ -8,7 +8,7 @@ pub loop-entry-preserved : goal.loop-entry-preserved
 loop-entry-preserved c =
     let es = c.args.entries.now in
     let i = c.loop-entry.entry-index in
-    c.loop-entry.invariant ∙ ap (last_of c.args.batch c.loop-entry.found) (dropped es i c.entry-item.result c.loop-entry-test.true c.entry-item.is) ∙ ap (λ o. last_of c.args.batch o (drop (i + 1) es)) (sym c.after-entry-found.ensures)
+    c.loop-entry.invariant ∙ ap (last_of c.args.batch c.loop-entry.found) (dropped es i c.entry-item.result c.loop-entry-test.true c.entry-item.is) ∙ ap (λ o. last_of c.args.batch o (drop (i + 1) es)) (sym c.after_entry-found.ensures)
 
 pub returns : goal.returns
 returns c = sym (c.loop-entry.invariant ∙ ap (last_of c.args.batch c.loop-entry.found) (drop_all c.loop-entry.entry-index c.args.entries.now c.loop-entry-test.false))

@@ -16,8 +16,8 @@ loop-entries-init g c = record {
   told = subst (Told c.args.site []) (sym c.new-entries.ensures.items) tt;
 }
 
-pub listen-once-turn-requires : goal.listen-once-turn-requires
-listen-once-turn-requires g c =
+pub listen_once-turn-requires : goal.listen_once-turn-requires
+listen_once-turn-requires g c =
     let i = c.loop-entries.invariant in
     record {
       room = omega (arith, i.room);
@@ -27,4 +27,4 @@ listen-once-turn-requires g c =
 
 pub loop-entries-preserved : goal.loop-entries-preserved
 loop-entries-preserved g c =
-    next c.args.site g.F.ReadFormat.model g.F.ReadFormat.stands _ _ c.loop-entries.receiver c.listen-once-turn.new.receiver _ _ c.loop-entries.buffer c.listen-once-turn.new.buffer (vec_items c.loop-entries.entries) _ c.listen-once-turn.result c.loop-entries.invariant c.listen-once-turn.ensures (omega (arith, c.loop-entries.invariant.room)) c.in-ok-note.ensures
+    next c.args.site g.F.ReadFormat.model g.F.ReadFormat.stands _ _ c.loop-entries.receiver c.listen_once-turn.new.receiver _ _ c.loop-entries.buffer c.listen_once-turn.new.buffer (vec_items c.loop-entries.entries) _ c.listen_once-turn.result c.loop-entries.invariant c.listen_once-turn.ensures (omega (arith, c.loop-entries.invariant.room)) c.in_ok-note.ensures

@@ -11,6 +11,6 @@ returns g c =
         freed.goes_on c.args.buffer.now a here,
         λ k count e.
             let x = seen.2 a here in
-            looked c.args.site c.args.kind c.args.buffer.now c.in-Ok.user.octets.now c.as-slice.result.now a.stage k count x.0 x.1 e x.2 x.3 c.as-slice.ensures c.decode-entry.result c.decode-entry.ensures,
+            looked c.args.site c.args.kind c.args.buffer.now c.in-Ok.user.octets.now c.as_slice.result.now a.stage k count x.0 x.1 e x.2 x.3 c.as_slice.ensures c.decode-entry.result c.decode-entry.ensures,
       );
     }

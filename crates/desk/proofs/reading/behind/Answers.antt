@@ -5,13 +5,13 @@ use Rattle.desk.specs.Texts.{Wrong}
 use Rattle.desk.proofs.reading.behind.Goals as goal
 
 -- not one number
-pub returns-in-err-number : goal.returns-in-err-number
-returns-in-err-number c =
-    let p = err_from_is_err_and c.from-residual-in-err-number.result c.from-residual-in-err-number.ensures.1 in
-    rw p.1 (subst (λ n. Wrong n (split_whitespace_rest c.args.words) p.0) (sym c.in-Numbered.is) (_, p.2, c.in-err-number.ensures))
+pub returns-in_err-number : goal.returns-in_err-number
+returns-in_err-number c =
+    let p = err_from_is_err_and c.from_residual-in_err-number.result c.from_residual-in_err-number.ensures.1 in
+    rw p.1 (subst (λ n. Wrong n (split_whitespace_rest c.args.words) p.0) (sym c.in-Numbered.is) (_, p.2, c.in_err-number.ensures))
 
 -- not two numbers
-pub returns-in-err-fixed-length : goal.returns-in-err-fixed-length
-returns-in-err-fixed-length c =
-    let p = err_from_is_err_and c.from-residual-in-err-fixed-length.result c.from-residual-in-err-fixed-length.ensures.1 in
-    rw p.1 (subst (λ n. Wrong n (split_whitespace_rest c.args.words) p.0) (sym c.in-Ft2.is) (_, p.2, c.in-err-fixed-length.ensures))
+pub returns-in_err-fixed_length : goal.returns-in_err-fixed_length
+returns-in_err-fixed_length c =
+    let p = err_from_is_err_and c.from_residual-in_err-fixed_length.result c.from_residual-in_err-fixed_length.ensures.1 in
+    rw p.1 (subst (λ n. Wrong n (split_whitespace_rest c.args.words) p.0) (sym c.in-Ft2.is) (_, p.2, c.in_err-fixed_length.ensures))

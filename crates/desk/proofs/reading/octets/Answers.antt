@@ -8,7 +8,7 @@ pub loop-word-preserved : goal.loop-word-preserved
 loop-word-preserved c =
     let first = first_of _ c.in-Some.word.now _ c.in-Some.ensures.steps in
     let more = one_more c.loop-word.invariant c.in-Some.word.now _ c.in-Some-octet.value first (sym c.in-Some-octet.ensures) in
-    subst (Sofar (split_whitespace_rest c.args.words) (split_whitespace_rest c.next.new.self)) (sym c.in-ok-push.ensures.items) more
+    subst (Sofar (split_whitespace_rest c.args.words) (split_whitespace_rest c.next.new.self)) (sym c.in_ok-push.ensures.items) more
 
 -- no word is left
 pub returns : goal.returns

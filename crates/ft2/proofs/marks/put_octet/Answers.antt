@@ -13,8 +13,8 @@ room c =
 pub bounds-marks-next : goal.bounds-marks-next
 bounds-marks-next c = room c
 
-pub overflow-add-next : goal.overflow-add-next
-overflow-add-next c = let r = room c in search rules
+pub overflow_add-next : goal.overflow_add-next
+overflow_add-next c = let r = room c in search rules
 
 pub loop-k-preserved : goal.loop-k-preserved
 loop-k-preserved c =

@@ -9,4 +9,4 @@ returns-in-1-to-8 c =
     let place = c.args.place in
     let next : suc (place - 1) ≡ place = omega arith in
     let below : place - 1 < 8 = omega arith in
-    ap Some c.data-mark.ensures ∙ sym (data_at c.args.parity c.args.stop octet (place - 1) below) ∙ ap (at_place (framed c.args.parity c.args.stop octet)) next
+    ap Some c.data_mark.ensures ∙ sym (data_at c.args.parity c.args.stop octet (place - 1) below) ∙ ap (at_place (framed c.args.parity c.args.stop octet)) next

@@ -7,7 +7,7 @@ use Rattle.desk.proofs.desk.Desk.listen.Goals as goal
 pub returns : goal.returns
 returns g c =
     let call = c.listen-hearing in
-    let lent = c.as-mut-slice.ensures in
+    let lent = c.as_mut_slice.ensures in
     let frame = c.args.self.frame in
     let long : length call.new.frame ≡ vec_len frame = omega (arith, call.auto.frame, lent.len) in
     let P : List ℕ → List ℕ → Type 0 = λ xs ys. Listened g.L.Line.pending c.args.budget c.args.self.hearing call.result.0 c.args.line.now call.new.line xs ys call.result.1 in

@@ -7,7 +7,7 @@ use Rattle.desk.proofs.desk.Desk.write.Goals as goal
 pub returns : goal.returns
 returns c =
     let call = c.write-answer in
-    let lent = c.as-mut-slice.ensures in
+    let lent = c.as_mut_slice.ensures in
     let marks = c.args.self.marks in
     let long : length call.new.marks ≡ vec_len marks = omega (arith, call.auto.marks, lent.len) in
     let P : List ℕ → List ℕ → Type 0 = λ xs ys. Wrote c.args.self.hearing c.args.kind c.args.octets.now xs ys call.result in

@@ -6,8 +6,8 @@ use Rattle.desk.proofs.desk.Desk.write_gap.Goals as goal
 -- the mark buffer holds what the writer left in it
 pub returns : goal.returns
 returns c =
-    let call = c.write-gap-answer in
-    let lent = c.as-mut-slice.ensures in
+    let call = c.write_gap-answer in
+    let lent = c.as_mut_slice.ensures in
     let marks = c.args.self.marks in
     let long : length call.new.marks ≡ vec_len marks = omega (arith, call.auto.marks, lent.len) in
     let P : List ℕ → List ℕ → Type 0 = λ xs ys. WroteGap c.args.self.hearing xs ys call.result in

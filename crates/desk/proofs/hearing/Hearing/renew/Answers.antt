@@ -8,10 +8,10 @@ pub returns-in-Ft12 : goal.returns-in-Ft12
 returns-in-Ft12 c =
     let new = c.new-receiver in
     subst (λ h. Renewed h (Ft12 new.result) NewReceiver) (sym c.in-Ft12.is)
-    (refl, (new.result, refl, (new.ensures.begun, new.ensures.same ∙ ap ft12_means c.into-format.ensures)))
+    (refl, (new.result, refl, (new.ensures.begun, new.ensures.same ∙ ap ft12_means c.into_format.ensures)))
 
 pub returns-in-Ft2 : goal.returns-in-Ft2
 returns-in-Ft2 c =
     let new = c.new-receiver-in-Ft2 in
     subst (λ h. Renewed h (Ft2 new.result) NewReceiver) (sym c.in-Ft2.is)
-    (refl, (new.result, refl, (new.ensures.begun, new.ensures.same ∙ ap ft2_means c.into-format-in-Ft2.ensures)))
+    (refl, (new.result, refl, (new.ensures.begun, new.ensures.same ∙ ap ft2_means c.into_format-in-Ft2.ensures)))

@@ -5,4 +5,4 @@ use Rattle.ft2.proofs.reader.Reader.take_user.Goals as goal
 pub returns : goal.returns
 returns c = λ os at.
     user_taken c.args.self.now _ c.args.block c.args.left c.args.octet os at
-    (c.to-come-self.ensures (os ++ (c.args.octet ∷ []))) (c.first-of.ensures os at.first_is) c.take-octet.ensures
+    (c.to_come-self.ensures (os ++ (c.args.octet ∷ []))) (c.first_of.ensures os at.first_is) c.take_octet.ensures

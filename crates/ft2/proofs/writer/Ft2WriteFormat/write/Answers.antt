@@ -6,6 +6,6 @@ pub returns : goal.returns
 returns c =
     let s = c.args.self.now.settings in
     let os = c.args.octets.now in
-    written s.fixed s.header c.args.kind c.put-frame.result c.in-Some.kind os c.args.marks.now c.put-frame.new.marks s.limits
-    (sym c.in-Some.ensures) (sym c.if-not-suits.ensures) (sym c.if-not-is-headed.ensures) (octets_from os (λ i. (c.type-inv.octets i).fits))
-    (omega (arith, c.frame-length.ensures os refl, c.if-marks-frame-length.false)) c.put-frame.ensures
+    written s.fixed s.header c.args.kind c.put_frame.result c.in-Some.kind os c.args.marks.now c.put_frame.new.marks s.limits
+    (sym c.in-Some.ensures) (sym c.if-not-suits.ensures) (sym c.if-not-is_headed.ensures) (octets_from os (λ i. (c.type_inv.octets i).fits))
+    (omega (arith, c.frame_length.ensures os refl, c.if-marks-frame_length.false)) c.put_frame.ensures

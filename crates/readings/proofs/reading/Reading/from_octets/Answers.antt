@@ -5,4 +5,4 @@ use Rattle.readings.proofs.reading.Reading.from_octets.Goals as goal
 pub returns : goal.returns
 returns c =
     let seven : length c.args.octets.now ≡ 7 = search rules in
-    of_numbers c.args.octets.now seven (λ i. omega (arith, c.type-inv.octets i)) _ _ _ (omega arith) (omega arith) (omega arith) c.new.result c.new.ensures
+    of_numbers c.args.octets.now seven (λ i. omega (arith, c.type_inv.octets i)) _ _ _ (omega arith) (omega arith) (omega arith) c.new.result c.new.ensures

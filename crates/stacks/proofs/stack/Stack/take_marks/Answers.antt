@@ -8,4 +8,4 @@ loop-taken-preserved g c =
     let mark = c.in-Some.mark in
     let after = stacked g.L.Line.pending c.take.new.self in
     let joined = c.loop-taken.invariant.2 ∙ ap (λ r. marks ++ r) c.in-Some.ensures.taken ∙ sym (append_assoc marks (mark ∷ []) after) in
-    (omega arith, omega arith, joined ∙ ap (λ r. r ++ after) (sym c.push-reserved.ensures.items), c.take.ensures.same ∙ c.loop-taken.invariant.3)
+    (omega arith, omega arith, joined ∙ ap (λ r. r ++ after) (sym c.push_reserved.ensures.items), c.take.ensures.same ∙ c.loop-taken.invariant.3)
