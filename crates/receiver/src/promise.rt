@@ -13,7 +13,7 @@ pub fn never_deaf_and_never_deceived<F: ReadFormat, L: Line>(
     receiver: &Receiver<F>,
     _line: &L,
 ) -> u8
-    ensures promise { Promise Fault-as-Fault.cause (At F.ReadFormat.model F.ReadFormat.stands) (model_of F.ReadFormat.model) standing_of L.Line.pending }
+    ensures promise { Promise F.Fault.cause (At F.ReadFormat.model F.ReadFormat.stands) (model_of F.ReadFormat.model) standing_of L.Line.pending }
     ensures distance { result ≡ (model_of F.ReadFormat.model receiver.now).distance }
 {
     receiver.format().hamming_distance()

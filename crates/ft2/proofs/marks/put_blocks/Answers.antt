@@ -22,8 +22,8 @@ loop-from-preserved c =
     let fifteen : from + 15 - from ≡ 15 = omega arith in
     blocks_more os (take (from + 15 - from) (drop from os)) from c.args.at c.loop-from.next c.put_block-next.result c.args.marks.now c.loop-from.marks c.put_block-next.new.marks (omega arith) (ap (λ n. take n (drop from os)) fifteen) c.loop-from.invariant c.put_block-next.ensures
 
-pub put_block-next-requires-then-from_octets : goal.put_block-next-requires-then-from_octets
-put_block-next-requires-then-from_octets c =
+pub put_block-next-requires-then-from-octets : goal.put_block-next-requires-then-from-octets
+put_block-next-requires-then-from-octets c =
     let os = c.args.octets.now in
     let from = c.loop-from.from in
     omega (
@@ -34,12 +34,12 @@ put_block-next-requires-then-from_octets c =
       length-drop from os,
     )
 
-pub returns-then-from_octets : goal.returns-then-from_octets
-returns-then-from_octets c =
+pub returns-then-from-octets : goal.returns-then-from-octets
+returns-then-from-octets c =
     let os = c.args.octets.now in
     let from = c.loop-from.from in
-    blocks_last os (take (length os - from) (drop from os)) from c.args.at c.loop-from.next c.put_block-next-then-from_octets.result c.args.marks.now c.loop-from.marks c.put_block-next-then-from_octets.new.marks c.if-from_octets.true c.loop-from-test.false (take_rest os from) c.loop-from.invariant c.put_block-next-then-from_octets.ensures
+    blocks_last os (take (length os - from) (drop from os)) from c.args.at c.loop-from.next c.put_block-next-then-from-octets.result c.args.marks.now c.loop-from.marks c.put_block-next-then-from-octets.new.marks c.if-from-octets.true c.loop-from-test.false (take_rest os from) c.loop-from.invariant c.put_block-next-then-from-octets.ensures
 
-pub returns-else-from_octets : goal.returns-else-from_octets
-returns-else-from_octets c =
+pub returns-else-from-octets : goal.returns-else-from-octets
+returns-else-from-octets c =
     blocks_all c.args.octets.now c.loop-from.from c.args.at c.loop-from.next c.args.marks.now c.loop-from.marks (omega arith) c.loop-from.invariant

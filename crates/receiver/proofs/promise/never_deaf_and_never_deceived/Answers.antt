@@ -10,6 +10,6 @@ returns g c =
     let model = g.F.ReadFormat.model in
     let stands = g.F.ReadFormat.stands in
     record {
-      promise = promised g.Fault.Fault.cause (At model stands) (model_of model) standing_of g.L.Line.pending (tied model stands) (λ r. g.met.F.ReadFormat.lawful r.format);
+      promise = promised g.F.Fault.Fault.cause (At model stands) (model_of model) standing_of g.L.Line.pending (tied model stands) (λ r. g.met.F.ReadFormat.lawful r.format);
       distance = c.hamming_distance.ensures ∙ ap (λ f. (model f).distance) c.format.ensures;
     }
