@@ -14,8 +14,8 @@ const MARKS: usize = 512;
 
 fn told(unsent: Unsent) -> anyhow::Error {
     match unsent {
-        Unsent::Refused(_) => "the frame is refused".into(),
-        Unsent::NoMemory => "no memory".into(),
+        Unsent::Refused(_) => anyhow!("the frame is refused"),
+        Unsent::NoMemory => anyhow!("no memory"),
     }
 }
 

@@ -5,13 +5,13 @@ use Rattle.desk.specs.Texts.{Wrong}
 use Rattle.desk.proofs.reading.behind.Goals as goal
 
 -- not one number
-pub returns-in_err-number : goal.returns-in_err-number
-returns-in_err-number c =
+pub returns-in_err-number-in-Numbered : goal.returns-in_err-number-in-Numbered
+returns-in_err-number-in-Numbered c =
     let p = err_from_is_err_and c.from_residual-in_err-number.result c.from_residual-in_err-number.ensures.1 in
     rw p.1 (subst (λ n. Wrong n (split_whitespace_rest c.args.words) p.0) (sym c.in-Numbered.is) (_, p.2, c.in_err-number.ensures))
 
 -- not two numbers
-pub returns-in_err-fixed_length : goal.returns-in_err-fixed_length
-returns-in_err-fixed_length c =
+pub returns-in_err-fixed_length-in-Ft2 : goal.returns-in_err-fixed_length-in-Ft2
+returns-in_err-fixed_length-in-Ft2 c =
     let p = err_from_is_err_and c.from_residual-in_err-fixed_length.result c.from_residual-in_err-fixed_length.ensures.1 in
     rw p.1 (subst (λ n. Wrong n (split_whitespace_rest c.args.words) p.0) (sym c.in-Ft2.is) (_, p.2, c.in_err-fixed_length.ensures))
