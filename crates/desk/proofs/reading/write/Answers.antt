@@ -9,10 +9,10 @@ returns-in_err-octets-in-Ok c =
     let first = first_of _ c.in-Some.word.now _ c.in-Some.ensures.steps in
     let p = err_from_is_err_and c.from_residual.result c.from_residual.ensures.1 in
     let small = c.in-Ok.ensures in
-    rw p.1 (inr (inr (c.in-Ok.kind, c.in-Some.word.now, _, _, p.2, first, small.0, small.1, c.in_err-octets.ensures)))
+    rw p.1 (inr (inr (c.in-Ok.kind, c.in-Some.word.now, _, _, p.2, first, small.0, small.1, c.in_err-octets-in-Ok.ensures)))
 
 pub returns-in_ok-octets-in-Ok : goal.returns-in_ok-octets-in-Ok
 returns-in_ok-octets-in-Ok c =
     let first = first_of _ c.in-Some.word.now _ c.in-Some.ensures.steps in
     let small = c.in-Ok.ensures in
-    (c.in-Ok.kind, c.in_ok-octets.octets, refl, (c.in-Some.word.now, _, first, small.0, small.1, c.in_ok-octets.ensures))
+    (c.in-Ok.kind, c.in_ok-octets-in-Ok.octets, refl, (c.in-Some.word.now, _, first, small.0, small.1, c.in_ok-octets-in-Ok.ensures))
