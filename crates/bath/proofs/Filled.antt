@@ -1,5 +1,5 @@
 -- What is taken from a mark buffer that marks were written to.
-use Rattle.std.proofs.Common.{◌≡◌, ℕ, ◌-◌, List, ◌++◌, map, length, take, drop, sym, refl, ap, ◌∙◌, subst, arith}
+use Rattle.std.proofs.Common.{◌≡◌, ℕ, ◌-◌, List, ◌++◌, map, length, take, drop, sym, ap, ◌∙◌, arith}
 use lib.ListN.{length-map}
 use lib.Seq.{take-append_seam}
 use Rattle.lines.specs.declared.mark.Mark.{Mark}

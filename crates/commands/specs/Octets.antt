@@ -1,5 +1,5 @@
 -- Octets written as two hex digits.
-use Rattle.std.specs.Prelude.{◌≡◌, ℕ, ◌+◌, ◌-◌, ◌*◌, cond, ◌&&◌, List, [], ◌∷◌, Some, None, Option, nat_le}
+use Rattle.std.specs.Prelude.{ℕ, ◌+◌, ◌-◌, ◌*◌, cond, ◌&&◌, List, [], ◌∷◌, Some, None, Option, nat_le}
 
 -- the value of a hex digit by its code: 0 to 9 are 48 to 57, A to F are 65 to 70, a to f are 97 to 102
 abbrev pub digit_of : ℕ → Option ℕ

@@ -6,7 +6,7 @@ use Rattle.lines.specs.declared.mark.Mark.{Mark}
 use Rattle.lines.specs.declared.sampling.Kept.{Kept}
 use Rattle.lines.specs.declared.sampling.Kept.TheVariants.{Nothing}
 use Rattle.stacks.specs.Layering.{through}
-use Rattle.stacks.specs.Stacks.{TookMarks, layers_on, uncovered}
+use Rattle.stacks.specs.Stacks.{layers_on, uncovered}
 use Rattle.commands.specs.declared.answer.Answer.{Answer}
 use Rattle.commands.specs.declared.answer.Answer.TheVariants as answer
 use Rattle.commands.specs.declared.answer.Setup.{Setup}

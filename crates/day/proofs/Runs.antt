@@ -1,14 +1,14 @@
 -- What a listen's marks come to.
-use Rattle.std.proofs.Common.{◌≡◌, ℕ, ◌≤◌, Bool, true, false, cond, ltb, ◌⊎◌, List, [], ◌∷◌, ◌++◌, length, take, sym, refl, ap, ◌∙◌, subst, inl, inr, arith}
+use Rattle.std.proofs.Common.{◌≡◌, ℕ, ◌≤◌, Bool, true, false, cond, ltb, List, [], ◌∷◌, ◌++◌, length, take, sym, refl, ap, ◌∙◌, subst, inl, inr, arith}
 use Rattle.lines.specs.declared.mark.Mark.{Mark}
 use Rattle.lines.specs.declared.mark.Mark.TheVariants.{Zero, One, Bad}
 use Rattle.formats.specs.Laws.{Model}
 use Rattle.formats.specs.Verdicts.{Cause, Verdict, open_list, tells, frame_of, fault_of}
 use Rattle.hearing.specs.Calls.{Brings, Ends}
-use Rattle.hearing.specs.Rules.{Event, Hearer, Stage, by_stage, comes_to, count_told, fault, frame, hears, holding, nothing, ready, resting, run_after, waiting, within}
+use Rattle.hearing.specs.Rules.{Event, Hearer, Stage, by_stage, comes_to, count_told, fault, frame, hears, holding, nothing, ready, run_after, waiting, within}
 use Rattle.hearing.specs.declared.answer.Ending.{Ending}
 use Rattle.hearing.specs.declared.answer.Ending.TheVariants as ending
-use Rattle.day.specs.Hearing.{Free, Outcome, damaged, going_on, outcomes, run, sound}
+use Rattle.day.specs.Hearing.{Free, damaged, going_on, outcomes, run, sound}
 
 -- the stage after a mark that brought this: a frame is held, and else none is
 abbrev pub After : Event → Stage → Type 0

@@ -1,5 +1,5 @@
 -- One listen, and what is noted of it.
-use Rattle.std.proofs.Common.{◌≡◌, ℕ, ◌+◌, ◌<◌, ◌≤◌, List, [], ◌∷◌, ◌++◌, length, take, sym, refl, ap, ◌∙◌, subst, arith, length-append}
+use Rattle.std.proofs.Common.{◌≡◌, ℕ, ◌<◌, ◌≤◌, List, [], ◌∷◌, length, take, sym, refl, ap, ◌∙◌, subst, arith, length-append}
 use Rattle.lines.specs.declared.mark.Mark.{Mark}
 use Rattle.formats.specs.Laws.{Model}
 use Rattle.formats.specs.Verdicts.{Cause}
@@ -14,13 +14,11 @@ use Rattle.readings.specs.declared.reading.Reading.{Reading}
 use Rattle.receiver.specs.Places.{At, kept, state_kept}
 use Rattle.receiver.specs.declared.receiver.Receiver.{Receiver}
 use Rattle.day.specs.Decoding.{Decoded, Placed, Spells, Suits}
-use Rattle.day.specs.Hearing.{Free, Goes, Handed, Notes, Outcome, Turned, damaged, run, sound}
+use Rattle.day.specs.Hearing.{Free, Handed, Turned, damaged, sound}
 use Rattle.day.specs.declared.entry.Entry.{Entry}
 use Rattle.day.specs.declared.entry.Entry.TheVariants as entry
-use Rattle.day.specs.declared.entry.Odd.{Odd}
 use Rattle.day.specs.declared.entry.Odd.TheVariants.{Kind, Octets, NotBath}
 use Rattle.day.specs.declared.entry.Site.{Site}
-use Rattle.day.specs.declared.hear.Turn.{Turn}
 use Rattle.day.specs.declared.hear.Turn.TheVariants.{Noted, Nothing, Over}
 use Rattle.day.proofs.Runs.{Came, came, released, some_mark}
 

@@ -4,7 +4,6 @@ use Rattle.readings.specs.Octets.{Misfits, octets_of}
 use Rattle.readings.specs.declared.reading.Reading.{Reading}
 use Rattle.day.specs.declared.entry.Entry.{Entry}
 use Rattle.day.specs.declared.entry.Entry.TheVariants as entry
-use Rattle.day.specs.declared.entry.Odd.{Odd}
 use Rattle.day.specs.declared.entry.Odd.TheVariants.{Kind, Octets, NotBath}
 use Rattle.day.specs.declared.entry.Site.{Site}
 use Rattle.day.specs.declared.entry.Site.TheVariants.{Line, Lab}

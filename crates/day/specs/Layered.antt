@@ -1,5 +1,5 @@
 -- The marks of a record through layers.
-use Rattle.std.specs.Prelude.{◌≡◌, ℕ, List, map, codes, ◌≢◌}
+use Rattle.std.specs.Prelude.{ℕ, List, map, codes, ◌≢◌}
 use Rattle.lines.specs.Layers.{exchanged, threes}
 use Rattle.lines.specs.declared.mark.Mark.{Mark}
 use Rattle.day.specs.declared.layers.Layers.{Layers}

@@ -1,9 +1,9 @@
 -- The laws of a format that judges mark by mark, told by its states, are the format's laws.
-use Rattle.std.proofs.Common.{◌≡◌, ℕ, ◌<◌, ◌≤◌, Bool, true, false, ◌⊎◌, List, [], ◌∷◌, ◌++◌, length, Ok, Result, sym, refl, ap, ◌∙◌, subst, inl, inr, append_assoc}
+use Rattle.std.proofs.Common.{◌≡◌, ℕ, ◌<◌, ◌≤◌, ◌⊎◌, List, [], ◌∷◌, ◌++◌, length, Ok, Result, sym, refl, ap, ◌∙◌, subst, inl, inr, append_assoc}
 use Rattle.lines.specs.declared.mark.Mark.{Mark}
 use Rattle.lines.specs.declared.mark.Mark.TheVariants.{Zero, One, Bad}
 use Rattle.formats.specs.Answers.{Added, Tells, list_after}
-use Rattle.formats.specs.Laws.{Model, Lawful, Reads, Laws}
+use Rattle.formats.specs.Laws.{Model, Lawful, Laws}
 use Rattle.formats.specs.Machine.{Machine, reached, Opened, StandsFor}
 use Rattle.formats.specs.Marks.{Altered, Begins, Quiet, behind_first, ones}
 use Rattle.formats.specs.declared.format.Progress.{Progress}

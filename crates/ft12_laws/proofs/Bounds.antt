@@ -1,12 +1,12 @@
 -- How long a list stays open, what it tells, and that a gap closes it.
-use Rattle.std.proofs.Common.{◌≡◌, ℕ, zero, suc, ◌+◌, ◌*◌, ◌%◌, ◌<◌, ◌≤◌, Bool, true, false, cond, eqb, ◌⊎◌, List, [], ◌∷◌, ◌++◌, length, sym, refl, ap, ◌∙◌, subst, inl, inr, arith, lit<, lit≤, length-append}
+use Rattle.std.proofs.Common.{◌≡◌, ℕ, zero, suc, ◌+◌, ◌*◌, ◌%◌, ◌<◌, ◌≤◌, Bool, true, false, cond, eqb, List, [], ◌∷◌, length, refl, subst, arith, lit<, lit≤, length-append}
 use Rattle.std.proofs.lemmas.Bool.{cond_both}
 use Rattle.lines.specs.Characters.{parity_mark}
 use Rattle.lines.specs.declared.mark.Mark.{Mark}
 use Rattle.lines.specs.declared.mark.Mark.TheVariants.{Zero, One, Bad}
-use Rattle.formats.specs.Machine.{Machine, reached, Opened}
+use Rattle.formats.specs.Machine.{reached, Opened}
 use Rattle.formats.specs.Marks.{Begins, ones}
-use Rattle.formats.specs.Verdicts.{Verdict, open_list, tells, frame_of, fault_of, Open, Fault, octet_told}
+use Rattle.formats.specs.Verdicts.{open_list, frame_of, Open, octet_told}
 use Rattle.formats.proofs.Machines.{told}
 use Rattle.ft12_laws.specs.Faults.{faulty}
 use Rattle.ft12_laws.specs.Frames.{kind_number}
@@ -15,7 +15,7 @@ use Rattle.ft12_laws.specs.Reading.{judge, judge_start, judge_data, judge_parity
 use Rattle.ft12_laws.specs.declared.fault.Ft12Fault.{Ft12Fault}
 use Rattle.ft12_laws.specs.declared.fault.Ft12Fault.TheVariants as fault
 use Rattle.ft12_laws.specs.declared.kind.Kind.{Kind}
-use Rattle.ft12_laws.specs.declared.kind.Kind.TheVariants.{Fixed, Variable, SingleE5, SingleA2}
+use Rattle.ft12_laws.specs.declared.kind.Kind.TheVariants.{Fixed, Variable}
 use Rattle.ft12_laws.specs.declared.reading.Place.{Place}
 use Rattle.ft12_laws.specs.declared.reading.Place.TheVariants as place
 use Rattle.ft12_laws.specs.declared.reading.Part.{Part}

@@ -6,7 +6,7 @@ use Rattle.lines.proofs.Octets.{every, every_below}
 use Rattle.lines.specs.Characters.{character}
 use Rattle.formats.specs.Laws.{Octets}
 use Rattle.formats.specs.Marks.{changes}
-use Rattle.formats.specs.Verdicts.{Cause, Verdict, open_list, tells, frame_of, fault_of, Open, Fault, octet_told}
+use Rattle.formats.specs.Verdicts.{Verdict, open_list, tells, frame_of, fault_of, Open, Fault, octet_told}
 use Rattle.ft12_laws.specs.Faults.{faulty}
 use Rattle.ft12_laws.specs.Frames.{added_up, closed, count_suits, frame_octets, kind_number, sum_of}
 use Rattle.ft12_laws.specs.Reading.{judge, judge_first, next, users}

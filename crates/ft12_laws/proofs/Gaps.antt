@@ -1,12 +1,12 @@
 -- No gap inside an altered frame.
-use Rattle.std.proofs.Common.{◌≡◌, ℕ, zero, suc, ◌+◌, ◌-◌, ◌<◌, ◌≤◌, ◌⊎◌, List, [], ◌∷◌, ◌++◌, length, take, drop, replicate, sym, refl, ap, ◌∙◌, subst, inl, inr, append_assoc, le_trans, arith, length-append}
+use Rattle.std.proofs.Common.{◌≡◌, ℕ, ◌+◌, ◌-◌, ◌<◌, ◌≤◌, List, [], ◌∷◌, ◌++◌, length, drop, sym, refl, ap, ◌∙◌, subst, inl, inr, le_trans, arith, length-append}
 use Rattle.std.proofs.lemmas.List.{drop-append-le, drop_at, drop-drop, drop-replicate, replicate-append-replicate, length-drop}
 use Rattle.std.proofs.lemmas.Bool.{cases_lt}
 use Rattle.lines.specs.Characters.{character}
 use Rattle.lines.specs.declared.mark.Mark.{Mark}
-use Rattle.lines.specs.declared.mark.Mark.TheVariants.{Zero, One, Bad}
+use Rattle.lines.specs.declared.mark.Mark.TheVariants.{One}
 use Rattle.formats.specs.Laws.{Octets}
-use Rattle.formats.specs.Marks.{change, changes, ones}
+use Rattle.formats.specs.Marks.{changes, ones}
 use Rattle.ft12_laws.specs.Frames.{characters}
 use Rattle.ft12_laws.proofs.Bits.{two_zeros}
 use Rattle.ft12_laws.proofs.Counts.{changes_join}

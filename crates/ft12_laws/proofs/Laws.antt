@@ -1,26 +1,25 @@
 -- FT1.2 keeps the laws of a format, at every fixed length.
-use Rattle.std.proofs.Common.{◌≡◌, ℕ, zero, suc, ◌+◌, ◌<◌, ◌≤◌, Bool, true, false, cond, eqb, ◌⊎◌, List, [], ◌∷◌, ◌++◌, length, Some, None, Option, sym, refl, ap, ◌∙◌, subst, inl, inr, arith, lit<, lit≤}
+use Rattle.std.proofs.Common.{◌≡◌, ℕ, suc, ◌<◌, ◌≤◌, true, ◌⊎◌, List, [], ◌∷◌, ◌++◌, length, Some, None, sym, refl, ap, ◌∙◌, subst, inl, inr, arith, lit≤}
 use Rattle.std.proofs.lemmas.Bool.{cases_eq, ne_eqb, both_ways}
 use Rattle.lines.specs.Characters.{parity_mark}
 use Rattle.lines.specs.declared.mark.Mark.{Mark}
-use Rattle.lines.specs.declared.mark.Mark.TheVariants.{Zero, One, Bad}
-use Rattle.formats.specs.Laws.{Laws, Lawful, Model, Octets}
-use Rattle.formats.specs.Machine.{Machine, reached, Opened}
-use Rattle.formats.specs.Marks.{Altered, Begins, Quiet, behind_first, change, changes, ones}
-use Rattle.formats.specs.Verdicts.{Verdict, frame_of}
+use Rattle.lines.specs.declared.mark.Mark.TheVariants.{Zero}
+use Rattle.formats.specs.Laws.{Laws, Lawful, Octets}
+use Rattle.formats.specs.Machine.{reached}
+use Rattle.formats.specs.Marks.{Altered, Begins, Quiet, behind_first, change, changes}
+use Rattle.formats.specs.Verdicts.{frame_of}
 use Rattle.formats.proofs.Machines.{Agrees, Breaks, Judged, MachineLaws, laws_of, told}
 use Rattle.ft12_laws.specs.Frames.{characters, count_suits, frame_marks, frame_octets, is_kind, kind_number, kind_of, suits_kind}
 use Rattle.ft12_laws.specs.Machine.{beginning, ft12_machine, says_at}
-use Rattle.ft12_laws.specs.Reading.{ft12_model, judge, judge_list, judge_parity, judge_stop, next, octet_of}
+use Rattle.ft12_laws.specs.Reading.{ft12_model, judge, judge_list, judge_parity, judge_stop, next}
 use Rattle.ft12_laws.specs.declared.kind.Kind.{Kind}
 use Rattle.ft12_laws.specs.declared.kind.Kind.TheVariants.{Fixed, Variable, SingleE5, SingleA2}
 use Rattle.ft12_laws.specs.declared.reading.Place.{Place}
 use Rattle.ft12_laws.specs.declared.reading.Place.TheVariants as place
-use Rattle.ft12_laws.specs.declared.reading.Reading.{Reading}
 use Rattle.ft12_laws.proofs.Bits.{moved, moved_is}
 use Rattle.ft12_laws.proofs.Bounds.{few_marks, few_octets, gap_closes_at, sound_reached}
 use Rattle.ft12_laws.proofs.Counts.{change_self}
-use Rattle.ft12_laws.proofs.Frames.{FirstOnly, first_only, frame_are_octets, frame_ends, frame_told, told_of}
+use Rattle.ft12_laws.proofs.Frames.{first_only, frame_are_octets, frame_ends, frame_told}
 use Rattle.ft12_laws.proofs.Gaps.{quiet_costs}
 use Rattle.ft12_laws.proofs.Heard.{altered_breaks, ends_judged, judged_ends, told_characters}
 

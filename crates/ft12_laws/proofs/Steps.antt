@@ -1,9 +1,9 @@
 -- Reading a character, mark by mark.
-use Rattle.std.proofs.Common.{◌≡◌, ℕ, zero, suc, ◌+◌, ◌<◌, ◌≤◌, Bool, true, false, not, ◌⊎◌, List, [], ◌∷◌, ◌++◌, map, length, sym, refl, ap, ◌∙◌, subst, inl, inr, arith}
+use Rattle.std.proofs.Common.{◌≡◌, ℕ, ◌<◌, Bool, true, false, ◌⊎◌, List, [], ◌∷◌, ◌++◌, map, sym, refl, ap, ◌∙◌, subst, inl, inr}
 use Rattle.lines.specs.Characters.{bit, character, data_marks, mark_if, odd_ones, parity_mark}
 use Rattle.lines.specs.declared.mark.Mark.{Mark}
 use Rattle.lines.specs.declared.mark.Mark.TheVariants.{Zero, One, Bad}
-use Rattle.formats.specs.Verdicts.{Verdict, open_list, tells, frame_of, fault_of, Open, Fault, octet_told}
+use Rattle.formats.specs.Verdicts.{Verdict, open_list, Open, Fault, octet_told}
 use Rattle.formats.proofs.Machines.{Breaks, Judged, told}
 use Rattle.ft12_laws.specs.Machine.{beginning, ft12_machine}
 use Rattle.ft12_laws.specs.Reading.{judge, judge_start, judge_data, judge_parity, judge_stop, next}

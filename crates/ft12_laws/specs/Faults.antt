@@ -1,5 +1,4 @@
 -- The number and the layer of each FT1.2 fault.
-use Rattle.std.specs.Prelude.{ℕ}
 use Rattle.formats.specs.Numbers.{line_cause}
 use Rattle.formats.specs.Verdicts.{Cause, Verdict, fault_of}
 use Rattle.formats.specs.declared.fault.Layer.TheVariants as layer

@@ -1,5 +1,5 @@
 -- How FT1.2 judges marks.
-use Rattle.std.specs.Prelude.{ℕ, zero, suc, ◌+◌, ◌*◌, ◌%◌, Bool, true, false, cond, List, [], ◌∷◌, ◌++◌, ◌==◌}
+use Rattle.std.specs.Prelude.{ℕ, zero, suc, ◌+◌, ◌*◌, ◌%◌, true, cond, List, [], ◌∷◌, ◌==◌}
 use Rattle.formats.specs.Laws.{Model}
 use Rattle.formats.specs.Verdicts.{Verdict, open_list, tells, frame_of}
 use Rattle.formats.specs.declared.fault.LineFault.TheVariants.{BadMark}

@@ -1,5 +1,5 @@
 -- Frames worked by hand.
-use Rattle.std.specs.Prelude.{◌≡◌, List, [], ◌∷◌, length}
+use Rattle.std.specs.Prelude.{◌≡◌, [], ◌∷◌, length}
 use Rattle.lines.specs.declared.mark.Mark.TheVariants.{Zero, One}
 use Rattle.ft12_laws.specs.Frames.{characters, frame_octets, frame_marks, kind_of}
 use Rattle.ft12_laws.specs.declared.kind.Kind.TheVariants.{Fixed, Variable}

@@ -1,9 +1,9 @@
 -- A mark added to the reader is a mark added to the lists that it stands for.
-use Rattle.std.proofs.Common.{◌≡◌, ℕ, Bool, true, false, List, [], ◌∷◌, ◌++◌, Ok, Err, Result, sym, refl, ap, ◌∙◌, subst, ap₂, arith}
+use Rattle.std.proofs.Common.{◌≡◌, ℕ, true, false, Ok, Result, sym, refl, ap, ◌∙◌, subst, ap₂, arith}
 use Rattle.lines.specs.declared.mark.Mark.{Mark}
-use Rattle.lines.specs.declared.mark.Mark.TheVariants.{Zero, One, Bad}
+use Rattle.lines.specs.declared.mark.Mark.TheVariants.{One}
 use Rattle.formats.specs.Answers.{Added, Tells}
-use Rattle.formats.specs.Verdicts.{Cause, Verdict, Open, open_list, tells, frame_of, fault_of}
+use Rattle.formats.specs.Verdicts.{Verdict, Open, open_list, tells, frame_of, fault_of}
 use Rattle.formats.specs.declared.format.Progress.{Progress}
 use Rattle.formats.specs.declared.format.Progress.TheVariants as progress
 use Rattle.formats.proofs.Machines.{added_of, state_after}

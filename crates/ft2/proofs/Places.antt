@@ -1,7 +1,6 @@
 -- The reader at the places of a frame.
-use Rattle.std.proofs.Common.{◌≡◌, ℕ, zero, suc, Bool, true, false, cond, eqb, List, [], ◌∷◌, ◌++◌, Some, None, Option, Result, sym, refl, ap, ◌∙◌, subst, ap₂, arith}
+use Rattle.std.proofs.Common.{◌≡◌, ℕ, zero, suc, List, [], ◌∷◌, ◌++◌, Some, None, Result, sym, refl, ap, ◌∙◌, subst, arith}
 use Rattle.checks.specs.Bits.{block_bits, octet_bits}
-use Rattle.checks.specs.Check.{check_octet}
 use Rattle.checks.specs.Standing.{Stands}
 use Rattle.checks.proofs.Registers.{block_push}
 use Rattle.formats.specs.Answers.{Tells}
@@ -9,13 +8,12 @@ use Rattle.formats.specs.Verdicts.{Open}
 use Rattle.formats.specs.declared.format.Progress.{Progress}
 use Rattle.ft2_laws.specs.Faults.{ft2_cause}
 use Rattle.ft2_laws.specs.Frames.{check_of}
-use Rattle.ft2_laws.specs.Reading.{Place, start, user, check, users, after_block, judge, judge_block, next}
+use Rattle.ft2_laws.specs.Reading.{start, user, check, users, after_block, judge, judge_block}
 use Rattle.ft2_laws.specs.declared.fault.Ft2Fault.{Ft2Fault}
 use Rattle.ft2_laws.specs.declared.fault.Ft2Fault.TheVariants as fault
 use Rattle.ft2_laws.specs.declared.reading.Block.{Block}
 use Rattle.ft2_laws.proofs.Blocks.{due_verdict}
 use Rattle.ft2.specs.Standing.{At, BlockJudged, Judges, block_of, head_of, position_of}
-use Rattle.ft2.specs.declared.reader.Position.{Position}
 use Rattle.ft2.specs.declared.reader.Position.TheVariants as position
 use Rattle.ft2.specs.declared.reader.Reader.{Reader}
 

@@ -1,12 +1,12 @@
 -- A frame written is the frame.
-use Rattle.std.proofs.Common.{◌≡◌, ℕ, suc, ◌+◌, ◌-◌, ◌*◌, ◌<◌, ◌≤◌, Bool, true, List, [], ◌∷◌, ◌++◌, length, get_or, take, drop, Some, Ok, Option, sym, refl, ap, ◌∙◌, subst, ap₂, arith, length-append}
+use Rattle.std.proofs.Common.{◌≡◌, ℕ, suc, ◌+◌, ◌-◌, ◌<◌, ◌≤◌, true, List, [], ◌∷◌, ◌++◌, length, get_or, take, drop, Some, Ok, sym, refl, ap, ◌∙◌, subst, arith, length-append}
 use Rattle.std.proofs.lemmas.List.{take_rest}
 use Rattle.formats.specs.Answers.{Written, filled}
 use Rattle.formats.specs.Laws.{Octets}
 use Rattle.ft2_laws.specs.Frames.{count_suits, first_suits, frame_marks, frame_octets, headed_kind, in_blocks, is_kind, kind_of, marks_of, octet_marks, suits_kind, with_check}
 use Rattle.ft2_laws.specs.Reading.{ft2_model}
 use Rattle.ft2_laws.specs.declared.kind.Kind.{Kind}
-use Rattle.ft2_laws.specs.declared.kind.Kind.TheVariants.{Fixed, Variable}
+use Rattle.ft2_laws.specs.declared.kind.Kind.TheVariants.{Variable}
 use Rattle.ft2_laws.proofs.Bits.{marks_append}
 use Rattle.ft2_laws.proofs.Laws.{ft2_laws}
 use Rattle.ft2.specs.Making.{Within}

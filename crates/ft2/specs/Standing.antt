@@ -1,5 +1,5 @@
 -- What the reader's state stands for.
-use Rattle.std.specs.Prelude.{◌≡◌, ℕ, Bool, true, false, cond, List, [], ◌∷◌, ◌++◌, Some, None, Ok, Err, Option, Result}
+use Rattle.std.specs.Prelude.{◌≡◌, ℕ, Bool, true, false, List, [], ◌∷◌, Some, None, Ok, Err, Option, Result}
 use Rattle.checks.specs.Bits.{block_bits}
 use Rattle.checks.specs.Standing.{Stands}
 use Rattle.lines.specs.declared.mark.Mark.{Mark}
@@ -12,7 +12,7 @@ use Rattle.formats.specs.declared.fault.LineFault.TheVariants.{BadMark}
 use Rattle.formats.specs.declared.format.Progress.{Progress}
 use Rattle.formats.specs.declared.format.Progress.TheVariants as progress
 use Rattle.ft2_laws.specs.Faults.{ft2_cause}
-use Rattle.ft2_laws.specs.Reading.{Place, Reading, start, user, check, users, after_block, after_at, ft2_machine, judge, judge_block, next, says_at}
+use Rattle.ft2_laws.specs.Reading.{Place, Reading, start, user, check, after_block, after_at, ft2_machine, judge, judge_block, next, says_at}
 use Rattle.ft2_laws.specs.declared.fault.Ft2Fault.{Ft2Fault}
 use Rattle.ft2_laws.specs.declared.reading.Block.{Block}
 use Rattle.ft2_laws.specs.declared.reading.Part.{Part}

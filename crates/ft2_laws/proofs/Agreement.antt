@@ -1,16 +1,15 @@
 -- The format judges a list as its machine does, mark by mark.
-use Rattle.std.proofs.Common.{◌≡◌, ℕ, zero, suc, Bool, true, false, cond, eqb, List, [], ◌∷◌, ◌++◌, sym, refl, ap, ◌∙◌, subst, arith}
+use Rattle.std.proofs.Common.{◌≡◌, ℕ, zero, suc, Bool, true, false, cond, eqb, List, [], ◌∷◌, ◌++◌, sym, refl, ap, ◌∙◌, arith}
 use Rattle.lines.specs.declared.mark.Mark.{Mark}
-use Rattle.formats.specs.Machine.{Machine, Opened, reached}
+use Rattle.formats.specs.Machine.{Opened, reached}
 use Rattle.formats.specs.Marks.{Begins}
-use Rattle.formats.specs.Verdicts.{Verdict}
 use Rattle.formats.proofs.Machines.{Agrees}
-use Rattle.ft2_laws.specs.Reading.{Place, Reading, start, user, check, users, after_block, fixed_block, judge, judge_list, judge_mark, moved_in, octet_of, next, says_at, after_at, beginning, ft2_machine}
+use Rattle.ft2_laws.specs.Reading.{Place, Reading, start, user, check, users, after_block, fixed_block, judge, judge_list, judge_mark, moved_in, octet_of, next, after_at, beginning, ft2_machine}
 use Rattle.ft2_laws.specs.declared.reading.Block.{Block}
 use Rattle.ft2_laws.specs.declared.reading.Block.TheVariants.{Fixed, Header, Body}
 use Rattle.ft2_laws.specs.declared.reading.Part.{Part}
 use Rattle.ft2_laws.specs.declared.reading.Part.TheVariants.{First, Later}
-use Rattle.ft2_laws.proofs.Bits.{eight, moved, moved_eight}
+use Rattle.ft2_laws.proofs.Bits.{moved_eight}
 
 module _ (fixed header : ℕ) where
   agree : (p : Place) (done : List Mark) (m : Mark) → judge_list fixed header p (done ++ (m ∷ [])) ≡ (ft2_machine fixed header).says (reached (ft2_machine fixed header) (beginning p) done) m

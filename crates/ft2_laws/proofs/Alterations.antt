@@ -1,8 +1,8 @@
 -- A frame with 1 to 3 marks altered breaks.
-use Rattle.std.proofs.Common.{◌≡◌, ℕ, zero, suc, ◌+◌, ◌-◌, ◌*◌, ◌<◌, ◌≤◌, Bool, true, false, cond, eqb, ◌⊎◌, List, [], ◌∷◌, ◌++◌, map, length, take, drop, sym, refl, ap, ◌∙◌, subst, ap₂, inl, inr, append_assoc, arith, lit<, lit≤, length-append, length-drop, length-take}
-use Rattle.std.proofs.lemmas.List.{append-nil, drop_all, take-append-drop}
+use Rattle.std.proofs.Common.{◌≡◌, ℕ, zero, suc, ◌+◌, ◌*◌, ◌<◌, ◌≤◌, Bool, cond, eqb, ◌⊎◌, List, [], ◌∷◌, ◌++◌, map, length, take, drop, sym, refl, ap, ◌∙◌, subst, ap₂, inl, inr, append_assoc, arith, length-append, length-drop, length-take}
+use Rattle.std.proofs.lemmas.List.{append-nil, take-append-drop}
 use Rattle.std.proofs.lemmas.Bool.{cases_eq, ne_eqb, cond-false}
-use Rattle.checks.specs.Bits.{block_bits, differences, octet_bits}
+use Rattle.checks.specs.Bits.{block_bits, differences}
 use Rattle.checks.specs.Check.{check_bits}
 use Rattle.checks.proofs.Distances.{altered_shows, length_check}
 use Rattle.checks.proofs.Octets.{check_octet_bits, check_octet_lt}
@@ -12,11 +12,11 @@ use Rattle.lines.specs.Characters.{mark_if}
 use Rattle.lines.specs.declared.mark.Mark.{Mark}
 use Rattle.formats.specs.Laws.{Octets}
 use Rattle.formats.specs.Marks.{Altered, changes}
-use Rattle.formats.specs.Verdicts.{Verdict, open_list, frame_of, fault_of, Open, Fault}
+use Rattle.formats.specs.Verdicts.{open_list, Open, Fault}
 use Rattle.formats.proofs.Machines.{Breaks}
 use Rattle.ft2_laws.specs.Faults.{faulty}
 use Rattle.ft2_laws.specs.Frames.{check_of, frame_octets, marks_of, octet_marks, with_check}
-use Rattle.ft2_laws.specs.Reading.{Place, start, users, after_block, judge, judge_block, next, beginning, ft2_machine}
+use Rattle.ft2_laws.specs.Reading.{start, users, after_block, judge, judge_block, next, beginning, ft2_machine}
 use Rattle.ft2_laws.specs.declared.fault.Ft2Fault.TheVariants as fault
 use Rattle.ft2_laws.specs.declared.kind.Kind.{Kind}
 use Rattle.ft2_laws.specs.declared.reading.Block.{Block}

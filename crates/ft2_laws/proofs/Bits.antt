@@ -1,10 +1,10 @@
 -- Eight marks and their octet.
-use Rattle.std.proofs.Common.{◌≡◌, ℕ, zero, suc, ◌+◌, ◌*◌, ◌%◌, ◌^◌, ◌<◌, ◌≤◌, Bool, true, false, cond, ◌⊎◌, List, [], ◌∷◌, ◌++◌, map, length, sym, refl, ap, ◌∙◌, subst, inl, inr, arith, length-append}
+use Rattle.std.proofs.Common.{◌≡◌, ℕ, ◌+◌, ◌*◌, ◌%◌, ◌^◌, ◌<◌, ◌≤◌, Bool, true, false, cond, ◌⊎◌, List, [], ◌∷◌, ◌++◌, map, length, sym, refl, ap, ◌∙◌, subst, inl, inr, arith}
 use lib.ListN.{length-map}
 use Rattle.checks.specs.Bits.{bit, bits, octet_bits, block_bits}
 use Rattle.checks.specs.Bits as word
 use Rattle.checks.proofs.Octets.{octet_of_eight, value_lt, value_octet}
-use Rattle.checks.proofs.Words.{length_bits, length_block}
+use Rattle.checks.proofs.Words.{length_block}
 use Rattle.lines.specs.Characters.{mark_if}
 use Rattle.lines.specs.declared.mark.Mark.{Mark}
 use Rattle.lines.specs.declared.mark.Mark.TheVariants.{Zero, One, Bad}

@@ -1,22 +1,22 @@
 -- Frames as octets: blocks one after the other.
-use Rattle.std.proofs.Common.{◌≡◌, ℕ, zero, suc, ◌+◌, ◌-◌, ◌*◌, ◌<◌, ◌≤◌, Bool, true, false, cond, eqb, ltb, ◌⊎◌, List, [], ◌∷◌, ◌++◌, length, sym, refl, ap, ◌∙◌, subst, inl, inr, append_assoc, arith, length-append}
+use Rattle.std.proofs.Common.{◌≡◌, ℕ, zero, suc, ◌<◌, Bool, true, false, cond, eqb, ltb, ◌⊎◌, List, [], ◌∷◌, ◌++◌, length, sym, refl, ap, ◌∙◌, subst, inl, inr, append_assoc, arith}
 use Rattle.std.proofs.lemmas.List.{append-nil}
 use Rattle.std.proofs.lemmas.Bool.{cases_eq, eq-eqb, ne_eqb, cond-true, cond-false}
 use Rattle.checks.specs.Bits.{block_bits}
 use Rattle.checks.proofs.Octets.{check_octet_lt}
 use Rattle.lines.specs.declared.mark.Mark.{Mark}
 use Rattle.formats.specs.Laws.{Octets}
-use Rattle.formats.specs.Verdicts.{Cause, Verdict, open_list, tells, frame_of, fault_of, Open, Fault, octet_told}
+use Rattle.formats.specs.Verdicts.{Cause, Verdict, open_list, tells, frame_of, fault_of, Open, octet_told}
 use Rattle.formats.proofs.Machines.{Breaks, told}
 use Rattle.ft2_laws.specs.Faults.{faulty}
 use Rattle.ft2_laws.specs.Frames.{check_of, first_octet, marks_of, octet_marks, with_check}
-use Rattle.ft2_laws.specs.Reading.{Place, start, user, check, users, after_block, judge, judge_block, judge_count, next, beginning, ft2_machine}
+use Rattle.ft2_laws.specs.Reading.{Place, check, users, after_block, judge, judge_block, next, beginning, ft2_machine}
 use Rattle.ft2_laws.specs.declared.fault.Ft2Fault.{Ft2Fault}
 use Rattle.ft2_laws.specs.declared.fault.Ft2Fault.TheVariants as fault
 use Rattle.ft2_laws.specs.declared.reading.Block.{Block}
 use Rattle.ft2_laws.specs.declared.reading.Block.TheVariants.{Fixed, Header, Body}
 use Rattle.ft2_laws.specs.declared.reading.Part.TheVariants.{First}
-use Rattle.ft2_laws.proofs.Steps.{Along, Cut, cut, short, whole, octet_along, along_octet, octet_tells, octet_or_breaks, breaks_no_frame, short_no_frame}
+use Rattle.ft2_laws.proofs.Steps.{Along, Cut, short, whole, octet_along, along_octet, octet_tells, octet_or_breaks, breaks_no_frame, short_no_frame}
 
 -- Numbers that are octets.
 

@@ -1,18 +1,17 @@
 -- An open list is shorter than a gap.
-use Rattle.std.proofs.Common.{◌≡◌, ℕ, zero, suc, ◌+◌, ◌-◌, ◌*◌, ◌/◌, ◌<◌, ◌≤◌, min, max, Bool, true, false, cond, eqb, ltb, ◌⊎◌, List, [], ◌∷◌, ◌++◌, length, sym, refl, ap, ◌∙◌, subst, inl, inr, arith, length-append}
-use Rattle.std.proofs.lemmas.Bool.{cases_eq, cases_lt, cond-true, lt-ltb}
+use Rattle.std.proofs.Common.{◌≡◌, ℕ, zero, suc, ◌+◌, ◌-◌, ◌*◌, ◌/◌, ◌<◌, ◌≤◌, min, max, Bool, true, false, cond, eqb, ltb, ◌⊎◌, List, [], ◌∷◌, ◌++◌, length, refl, ap, ◌∙◌, subst, inl, inr, arith, length-append}
+use Rattle.std.proofs.lemmas.Bool.{cases_lt, cond-true, lt-ltb}
 use Rattle.lines.specs.declared.mark.Mark.{Mark}
 use Rattle.formats.specs.Machine.{Machine, Opened}
 use Rattle.formats.specs.Verdicts.{Verdict, open_list, tells, frame_of, fault_of, Open, octet_told}
 use Rattle.formats.proofs.Machines.{Breaks, Judged, told}
 use Rattle.ft2_laws.specs.Faults.{faulty}
 use Rattle.ft2_laws.specs.Frames.{check_of, first_octet, octet_marks}
-use Rattle.ft2_laws.specs.Reading.{Place, start, user, check, users, after_block, fixed_block, judge, judge_block, judge_count, next, beginning, ft2_machine}
+use Rattle.ft2_laws.specs.Reading.{Place, start, user, check, users, after_block, fixed_block, judge, judge_block, next, beginning, ft2_machine}
 use Rattle.ft2_laws.specs.declared.fault.Ft2Fault.TheVariants as fault
 use Rattle.ft2_laws.specs.declared.reading.Block.{Block}
 use Rattle.ft2_laws.specs.declared.reading.Block.TheVariants.{Fixed, Header, Body}
 use Rattle.ft2_laws.specs.declared.reading.Part.TheVariants.{First}
-use Rattle.ft2_laws.proofs.Blocks.{due_fault}
 use Rattle.ft2_laws.proofs.Steps.{Cut, short, whole, breaks_not_open, octet_opened, octet_or_breaks, octet_tells, short_tells}
 
 -- how many octets come after a block and its check octet, at most

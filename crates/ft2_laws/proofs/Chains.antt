@@ -1,12 +1,12 @@
 -- A frame is its start octet and a chain of blocks.
-use Rattle.std.proofs.Common.{◌≡◌, ℕ, zero, suc, ◌+◌, ◌-◌, ◌*◌, ◌<◌, ◌≤◌, min, Bool, true, false, cond, eqb, ltb, ◌⊎◌, List, [], ◌∷◌, ◌++◌, length, take, drop, sym, refl, ap, ◌∙◌, subst, ap₂, inl, inr, append_assoc, arith, length-append, length-drop, length-take}
+use Rattle.std.proofs.Common.{◌≡◌, ℕ, zero, suc, ◌+◌, ◌-◌, ◌<◌, ◌≤◌, min, cond, eqb, ltb, ◌⊎◌, List, [], ◌∷◌, ◌++◌, length, take, drop, sym, refl, ap, ◌∙◌, subst, ap₂, inl, inr, append_assoc, arith, length-drop, length-take}
 use Rattle.std.proofs.lemmas.List.{append-nil, drop_all, take_all, take-append-drop}
-use Rattle.std.proofs.lemmas.Bool.{cases_eq, cases_lt, eq-eqb, ne_eqb, le-ltb, cond-true, cond-false}
+use Rattle.std.proofs.lemmas.Bool.{cases_eq, cases_lt, ne_eqb, le-ltb, cond-false}
 use Rattle.formats.specs.Laws.{Octets}
 use Rattle.formats.specs.Verdicts.{Verdict, open_list, frame_of, Open}
 use Rattle.ft2_laws.specs.Faults.{faulty}
 use Rattle.ft2_laws.specs.Frames.{check_of, cut_in, first_octet, frame_octets, in_blocks, kind_number, with_check}
-use Rattle.ft2_laws.specs.Reading.{Place, start, users, after_block, fixed_block, judge_block, judge_count, next}
+use Rattle.ft2_laws.specs.Reading.{start, users, after_block, fixed_block, judge_block, judge_count, next}
 use Rattle.ft2_laws.specs.declared.fault.Ft2Fault.TheVariants as fault
 use Rattle.ft2_laws.specs.declared.kind.Kind.{Kind}
 use Rattle.ft2_laws.specs.declared.kind.Kind.TheVariants as kind

@@ -1,16 +1,16 @@
 -- FT2 keeps the laws of a format, at every fixed length of 1 to 30 and every header length of 1 to 15.
-use Rattle.std.proofs.Common.{◌≡◌, ℕ, zero, suc, ◌+◌, ◌-◌, ◌*◌, ◌<◌, ◌≤◌, Bool, true, false, cond, ◌&&◌, eqb, leb, ◌⊎◌, List, [], ◌∷◌, ◌++◌, length, Some, None, Option, sym, refl, ap, ◌∙◌, subst, inl, inr, arith, length-append}
+use Rattle.std.proofs.Common.{◌≡◌, ℕ, ◌+◌, ◌-◌, ◌<◌, ◌≤◌, true, eqb, leb, ◌⊎◌, List, [], ◌∷◌, ◌++◌, length, Some, None, sym, refl, ap, ◌∙◌, subst, inl, inr, arith, length-append}
 use lib.ListN.{length-replicate}
 use Rattle.std.proofs.lemmas.Bool.{and_parts, both_ways, cases_eq, cond-false, eqb-true, leb-true, ne_eqb}
 use Rattle.lines.specs.declared.mark.Mark.{Mark}
 use Rattle.lines.specs.declared.mark.Mark.TheVariants.{Zero, One}
 use Rattle.formats.specs.Laws.{Lawful, Laws, Octets}
-use Rattle.formats.specs.Machine.{Opened, reached}
-use Rattle.formats.specs.Marks.{Altered, Begins, Quiet, behind_first, ones}
-use Rattle.formats.specs.Verdicts.{Verdict, Open, open_list, frame_of, octet_told}
-use Rattle.formats.proofs.Machines.{Breaks, Judged, MachineLaws, laws_of, opened_join, told}
+use Rattle.formats.specs.Machine.{Opened}
+use Rattle.formats.specs.Marks.{Altered, Quiet, behind_first, ones}
+use Rattle.formats.specs.Verdicts.{Open, open_list, frame_of, octet_told}
+use Rattle.formats.proofs.Machines.{Judged, MachineLaws, laws_of, opened_join, told}
 use Rattle.ft2_laws.specs.Frames.{count_suits, first_octet, first_suits, frame_marks, frame_octets, gap_marks, headed_kind, is_kind, kind_number, kind_of, marks_of, octet_marks, suits_kind}
-use Rattle.ft2_laws.specs.Reading.{beginning, ft2_machine, ft2_model, judge, next, start, users}
+use Rattle.ft2_laws.specs.Reading.{beginning, ft2_machine, ft2_model, judge, next, start}
 use Rattle.ft2_laws.specs.declared.kind.Kind.{Kind}
 use Rattle.ft2_laws.specs.declared.kind.Kind.TheVariants.{Fixed, Variable}
 use Rattle.ft2_laws.proofs.Steps.{Along, along_judged, cut, judged_along}
@@ -18,7 +18,7 @@ use Rattle.ft2_laws.proofs.Blocks.{Then, along_octets, octets_along, octets_fron
 use Rattle.ft2_laws.proofs.Chains.{Framed, chain_then, chain_told, chained, framed_fixed, framed_variable, joined, octets_chained}
 use Rattle.ft2_laws.proofs.Counts.{altered_counts}
 use Rattle.ft2_laws.proofs.Alterations.{frame_shows}
-use Rattle.ft2_laws.proofs.Only.{FrameOnly, frames_only, framed_octets}
+use Rattle.ft2_laws.proofs.Only.{frames_only, framed_octets}
 use Rattle.ft2_laws.proofs.Bounds.{judged_front, open_bounds}
 use Rattle.ft2_laws.proofs.Agreement.{agrees}
 

@@ -1,6 +1,6 @@
 -- Only frames are read as frames.
-use Rattle.std.proofs.Common.{◌≡◌, ℕ, zero, suc, ◌+◌, ◌-◌, ◌*◌, ◌<◌, ◌≤◌, min, Bool, true, false, cond, ◌&&◌, eqb, ltb, leb, ◌⊎◌, List, [], ◌∷◌, ◌++◌, length, take, drop, sym, refl, ap, ◌∙◌, subst, ap₂, inl, inr, append_assoc, arith, length-append}
-use Rattle.std.proofs.lemmas.List.{append-nil, drop_all, drop_at, take_all, take_at}
+use Rattle.std.proofs.Common.{◌≡◌, ℕ, zero, suc, ◌+◌, ◌-◌, ◌<◌, ◌≤◌, min, true, cond, eqb, ltb, leb, ◌⊎◌, List, [], ◌∷◌, ◌++◌, length, take, drop, sym, refl, ap, ◌∙◌, subst, ap₂, inl, inr, append_assoc, arith, length-append}
+use Rattle.std.proofs.lemmas.List.{append-nil, drop_at, take_at}
 use Rattle.std.proofs.lemmas.Bool.{and_from, cases_eq, cases_lt, cond-false, cond-true, eq-eqb, le-leb, lt-ltb, ne_eqb}
 use Rattle.formats.specs.Laws.{Octets}
 use Rattle.formats.specs.Verdicts.{Verdict, open_list, frame_of, Open}
@@ -10,7 +10,6 @@ use Rattle.ft2_laws.specs.Reading.{Place, start, users, after_block, fixed_block
 use Rattle.ft2_laws.specs.declared.fault.Ft2Fault.TheVariants as fault
 use Rattle.ft2_laws.specs.declared.kind.Kind.{Kind}
 use Rattle.ft2_laws.specs.declared.kind.Kind.TheVariants as kind
-use Rattle.ft2_laws.specs.declared.reading.Block.{Block}
 use Rattle.ft2_laws.specs.declared.reading.Block.TheVariants.{Fixed, Header, Body}
 use Rattle.ft2_laws.proofs.Blocks.{Then, BlockOnly, block_only, due_fault, octets_front, octets_back, octets_join, open_no_frame, same_frame, then_no_fault}
 use Rattle.ft2_laws.proofs.Chains.{Framed, chained, count_none, count_some, joined, one_block}

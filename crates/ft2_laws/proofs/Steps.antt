@@ -1,15 +1,14 @@
 -- Reading an octet, mark by mark.
-use Rattle.std.proofs.Common.{◌≡◌, ℕ, zero, suc, ◌+◌, ◌*◌, ◌<◌, ◌≤◌, Bool, true, false, ◌⊎◌, List, [], ◌∷◌, ◌++◌, length, sym, refl, ap, ◌∙◌, subst, inl, inr, append_assoc, arith, length-append}
+use Rattle.std.proofs.Common.{◌≡◌, ℕ, zero, suc, ◌<◌, ◌≤◌, Bool, true, false, ◌⊎◌, List, [], ◌∷◌, ◌++◌, length, sym, refl, ap, ◌∙◌, subst, inl, inr, arith}
 use Rattle.checks.specs.Bits.{bit}
 use Rattle.lines.specs.Characters.{mark_if}
 use Rattle.lines.specs.declared.mark.Mark.{Mark}
 use Rattle.lines.specs.declared.mark.Mark.TheVariants.{Zero, One, Bad}
-use Rattle.formats.specs.Laws.{Octets}
 use Rattle.formats.specs.Machine.{Machine, Opened}
 use Rattle.formats.specs.Verdicts.{Verdict, open_list, tells, frame_of, fault_of, Open, Fault, octet_told}
 use Rattle.formats.proofs.Machines.{Breaks, Judged, told}
-use Rattle.ft2_laws.specs.Frames.{marks_of, octet_marks}
-use Rattle.ft2_laws.specs.Reading.{Place, Reading, beginning, ft2_machine, judge, judge_mark, moved_in, next, says_at, after_at}
+use Rattle.ft2_laws.specs.Frames.{octet_marks}
+use Rattle.ft2_laws.specs.Reading.{Place, beginning, ft2_machine, judge, judge_mark, moved_in, next}
 use Rattle.ft2_laws.specs.declared.reading.Part.{Part}
 use Rattle.ft2_laws.specs.declared.reading.Part.TheVariants.{First, Later}
 use Rattle.ft2_laws.proofs.Bits.{HasBad, moved, moves_in, octet_or_bad}

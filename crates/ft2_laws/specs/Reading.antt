@@ -1,5 +1,5 @@
 -- How FT2 judges marks.
-use Rattle.std.specs.Prelude.{ℕ, zero, suc, ◌+◌, ◌-◌, ◌*◌, ◌%◌, min, Bool, true, false, cond, List, [], ◌∷◌, ◌++◌, length, ◌==◌, nat_lt}
+use Rattle.std.specs.Prelude.{ℕ, zero, suc, ◌+◌, ◌-◌, ◌*◌, ◌%◌, min, cond, List, [], ◌∷◌, ◌++◌, ◌==◌, nat_lt}
 use Rattle.formats.specs.Laws.{Model}
 use Rattle.formats.specs.Machine.{Machine}
 use Rattle.formats.specs.Verdicts.{Verdict, open_list, tells, frame_of}

@@ -1,5 +1,5 @@
 -- Frames worked by hand.
-use Rattle.std.specs.Prelude.{◌≡◌, List, [], ◌∷◌, length}
+use Rattle.std.specs.Prelude.{◌≡◌, [], ◌∷◌}
 use Rattle.ft2_laws.specs.Frames.{frame_octets, frame_marks, gap_marks, kind_of, marks_of}
 use Rattle.ft2_laws.specs.declared.kind.Kind.TheVariants.{Fixed, Variable}
 

@@ -1,7 +1,7 @@
 -- Digits taken one by one.
-use Rattle.std.proofs.Common.{◌≡◌, ℕ, ◌+◌, ◌<◌, ◌≤◌, List, [], ◌∷◌, length, get_or, drop, Some, None, Option, sym, refl, ap, ◌∙◌, add-one, drop-cons}
+use Rattle.std.proofs.Common.{◌≡◌, ℕ, ◌+◌, ◌<◌, ◌≤◌, List, [], ◌∷◌, length, get_or, drop, None, Option, refl, ap, add-one, drop-cons}
 use Rattle.std.proofs.lemmas.List.{drop_all}
-use Rattle.readings.specs.Numbers.{digits_on, longer, with_digit}
+use Rattle.readings.specs.Numbers.{digits_on, longer}
 
 -- what is no number stays none
 pub none_on : (symbols : List ℕ) → digits_on None symbols ≡ None

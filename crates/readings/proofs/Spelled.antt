@@ -1,11 +1,9 @@
 -- Seven octets are the reading that their numbers make.
-use Rattle.std.proofs.Common.{◌≡◌, ℕ, ◌+◌, ◌*◌, ◌/◌, ◌%◌, ◌<◌, ◌≤◌, List, [], ◌∷◌, length, get_or, Ok, Err, Result, sym, refl, ap, ◌∙◌, subst, arith, MatchResult}
+use Rattle.std.proofs.Common.{◌≡◌, ℕ, ◌+◌, ◌*◌, ◌/◌, ◌%◌, ◌<◌, List, [], ◌∷◌, length, get_or, Ok, Err, Result, subst, arith, MatchResult}
 use Rattle.readings.specs.Octets.{Misfits, Unfit, batch_in, octets_of, temperature_in, viscosity_in}
 use Rattle.readings.specs.declared.reading.Reading.{Reading}
 use Rattle.readings.specs.declared.refusal.NoReading.{NoReading}
 use Rattle.readings.specs.declared.refusal.NoReading.TheVariants.{WrongCount, OutOfLimits}
-use Rattle.readings.specs.declared.refusal.Part.{Part}
-use Rattle.readings.specs.declared.refusal.Part.TheVariants.{Batch, Temperature, Viscosity}
 
 high : (a b : ℕ) → b < 256 → (a * 256 + b) / 256 ≡ a
 high a b h = omega arith

@@ -2,7 +2,7 @@
 use Rattle.std.proofs.Common.{◌≡◌, ℕ, ◌<◌, ◌≤◌, ◌⊎◌, List, [], ◌∷◌, ◌++◌, length, Some, Ok, Err, Result, sym, refl, subst, inl, inr, arith, MatchResult}
 use Rattle.std.specs.Char.{is_whitespace, is_not_whitespace}
 use Rattle.std.specs.Str.{NoCharPasses, EmptyOrStartsWithPassing}
-use Rattle.readings.specs.Keyed.{Cuts, First, Limits, NotThree, Refused, Three, Words, Writes, Wrong, at_terminal, number_in, word_of}
+use Rattle.readings.specs.Keyed.{Cuts, First, Limits, Refused, Three, Words, Writes, Wrong, at_terminal, number_in}
 use Rattle.readings.specs.Octets.{Unfit}
 use Rattle.readings.specs.declared.reading.Reading.{Reading}
 use Rattle.readings.specs.declared.refusal.Miskeyed.{Miskeyed}

@@ -1,4 +1,4 @@
-use Rattle.std.proofs.Common.{sym, refl, ap, ◌∙◌, subst}
+use Rattle.std.proofs.Common.{sym, refl, subst}
 use Rattle.commands.proofs.Cutting.{Sofar, first_of, one_more}
 use Rattle.std.specs.Str.Iter.{split_whitespace_rest}
 use Rattle.commands.proofs.command.choose.Goals as goal

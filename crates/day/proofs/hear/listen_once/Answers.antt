@@ -1,7 +1,6 @@
-use Rattle.std.proofs.Common.{◌≡◌, arith}
+use Rattle.std.proofs.Common.{arith}
 use Rattle.hearing.specs.declared.answer.Ending.TheVariants.{Frame}
 use Rattle.receiver.specs.Places.{At, model_of}
-use Rattle.day.specs.declared.entry.Entry.{Entry}
 use Rattle.day.specs.declared.entry.Entry.TheVariants.{Damaged}
 use Rattle.day.proofs.Turns.{comes, faulty, handed, holds, over, spent}
 use Rattle.day.proofs.hear.listen_once.Goals as goal

@@ -1,4 +1,4 @@
-use Rattle.std.proofs.Common.{length, get_or, take, refl, arith, length-take}
+use Rattle.std.proofs.Common.{get_or, take, refl, arith, length-take}
 use Rattle.ft2_laws.proofs.Bits.{length_marks}
 use Rattle.ft2.proofs.Filling.{octets_more, block_put}
 use Rattle.ft2.proofs.marks.put_block.Goals as goal

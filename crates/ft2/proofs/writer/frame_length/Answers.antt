@@ -1,4 +1,4 @@
-use Rattle.std.proofs.Common.{◌≡◌, ◌+◌, ◌-◌, ◌*◌, ◌/◌, true, length, sym, ap, ◌∙◌, subst, arith}
+use Rattle.std.proofs.Common.{◌≡◌, ◌+◌, ◌*◌, true, length, sym, ap, ◌∙◌, subst, arith}
 use Rattle.ft2_laws.specs.Frames.{count_suits, frame_octets, marks_of}
 use Rattle.ft2_laws.specs.declared.kind.Kind.TheVariants.{Fixed, Variable}
 use Rattle.ft2.proofs.Lengths.{length_fixed, length_variable, variable_from}

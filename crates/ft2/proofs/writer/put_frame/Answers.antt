@@ -1,6 +1,5 @@
-use Rattle.std.proofs.Common.{◌-◌, ◌≤◌, [], ◌∷◌, ◌++◌, length, take, drop, sym, subst, arith, length-append}
+use Rattle.std.proofs.Common.{◌-◌, ◌≤◌, [], ◌∷◌, length, take, sym, subst, arith, length-append}
 use Rattle.ft2_laws.specs.Frames.{check_of, frame_octets, in_blocks, marks_of, octet_marks, with_check}
-use Rattle.ft2_laws.specs.declared.kind.Kind.TheVariants.{Fixed, Variable}
 use Rattle.ft2_laws.proofs.Bits.{length_marks}
 use Rattle.ft2.specs.Putting.{Put}
 use Rattle.ft2.proofs.Filling.{put_join}

@@ -1,4 +1,4 @@
-use Rattle.std.proofs.Common.{◌≡◌, ℕ, suc, ◌-◌, ◌<◌, Some, sym, ap, ◌∙◌, arith}
+use Rattle.std.proofs.Common.{◌≡◌, suc, ◌-◌, ◌<◌, Some, sym, ap, ◌∙◌, arith}
 use Rattle.lines.specs.Characters.{at_place, framed}
 use Rattle.lines.proofs.Characters.{data_at}
 use Rattle.lines.proofs.character.framed_mark.Goals as goal

@@ -1,4 +1,4 @@
-use Rattle.std.proofs.Common.{ap, ◌∙◌, arith}
+use Rattle.std.proofs.Common.{ap, ◌∙◌}
 use Rattle.lines.specs.Characters.{mark_if}
 use Rattle.lines.proofs.Octets.{parity_of}
 use Rattle.lines.proofs.character.parity_mark.Goals as goal

@@ -1,7 +1,6 @@
 use Rattle.std.proofs.Common.{◌≡◌, Some, arith}
-use Rattle.readings.specs.Keyed.{Words, number_in}
+use Rattle.readings.specs.Keyed.{Words}
 use Rattle.readings.specs.Numbers.{decimal_of, digits_on}
-use Rattle.readings.specs.declared.refusal.Part.TheVariants.{Viscosity}
 use Rattle.readings.proofs.Worded.{at_fault, no_batch}
 use Rattle.readings.proofs.keyed.of_words.Goals as goal
 
