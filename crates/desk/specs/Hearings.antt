@@ -20,8 +20,8 @@ use Rattle.desk.specs.Calls.{Listening, Looking, Releasing, Writing, WritingGap}
 use Rattle.desk.specs.declared.answer.DeskAnswer.{DeskAnswer}
 use Rattle.desk.specs.declared.answer.DeskAnswer.TheVariants as answer
 use Rattle.desk.specs.declared.answer.DeskRefusal.TheVariants as refusal
-use Rattle.desk.specs.declared.hearing.Hearing.{Hearing}
-use Rattle.desk.specs.declared.hearing.Hearing.TheVariants as hearing
+use Rattle.desk.specs.declared.hearings.Hearing.{Hearing}
+use Rattle.desk.specs.declared.hearings.Hearing.TheVariants as hearing
 
 -- what FT1.2 means at its settings, and the lists for which it stands
 abbrev pub ft12_means : Ft12 → Model

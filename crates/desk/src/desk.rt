@@ -1,10 +1,10 @@
 // The desk: a format with its receiver, a mark buffer and a frame buffer.
 ghost use Rattle.std.specs.Prelude.{◌≡◌, replicate, IfOk};
-ghost use Rattle.desk.specs.declared.hearing.Hearing.TheVariants.{None as NoneYet};
+ghost use Rattle.desk.specs.declared.hearings.Hearing.TheVariants.{None as NoneYet};
 ghost use Rattle.desk.specs.Orders.{Numbering, Obeyed, Writes, Simply};
 
 use crate::answer::DeskAnswer;
-use crate::hearing::Hearing;
+use crate::hearings::Hearing;
 use crate::order::{DeskOrder, Numbered, Simple};
 use lines::line::Line;
 use receiver::receiver::FRAME_OCTETS;

@@ -3,7 +3,7 @@
 
 pub mod answer;
 pub mod desk;
-pub mod hearing;
+pub mod hearings;
 pub mod misread;
 pub mod order;
 pub mod reading;

@@ -1,6 +1,6 @@
 use Rattle.std.proofs.Common.{Ok, Err, refl, ap}
 use Rattle.desk.specs.declared.answer.DeskAnswer.TheVariants.{Looked}
-use Rattle.desk.proofs.hearing.look.Goals as goal
+use Rattle.desk.proofs.hearings.look.Goals as goal
 
 pub returns-in-Ok : goal.returns-in-Ok
 returns-in-Ok g c = (Ok c.in-Ok.octets.octets.now, c.in-Ok.ensures, ap Looked c.len.ensures)

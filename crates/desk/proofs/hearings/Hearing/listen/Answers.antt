@@ -1,7 +1,7 @@
 use Rattle.std.proofs.Common.{sym, refl, subst}
 use Rattle.desk.specs.Hearings.{Listened}
-use Rattle.desk.specs.declared.hearing.Hearing.TheVariants.{Ft12, Ft2}
-use Rattle.desk.proofs.hearing.Hearing.listen.Goals as goal
+use Rattle.desk.specs.declared.hearings.Hearing.TheVariants.{Ft12, Ft2}
+use Rattle.desk.proofs.hearings.Hearing.listen.Goals as goal
 
 pub returns-in-Ft12 : goal.returns-in-Ft12
 returns-in-Ft12 g c =

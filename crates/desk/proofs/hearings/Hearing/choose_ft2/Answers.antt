@@ -1,6 +1,6 @@
 use Rattle.std.proofs.Common.{refl, ap, ◌∙◌, inl, rules}
 use Rattle.ft2_laws.specs.Reading.{ft2_model}
-use Rattle.desk.proofs.hearing.Hearing.choose_ft2.Goals as goal
+use Rattle.desk.proofs.hearings.Hearing.choose_ft2.Goals as goal
 
 pub returns-in-Ok : goal.returns-in-Ok
 returns-in-Ok c =

@@ -1,7 +1,7 @@
 use Rattle.std.proofs.Common.{sym, refl, subst}
 use Rattle.desk.specs.Hearings.{Released}
-use Rattle.desk.specs.declared.hearing.Hearing.TheVariants.{Ft12, Ft2}
-use Rattle.desk.proofs.hearing.Hearing.release.Goals as goal
+use Rattle.desk.specs.declared.hearings.Hearing.TheVariants.{Ft12, Ft2}
+use Rattle.desk.proofs.hearings.Hearing.release.Goals as goal
 
 pub returns-in-Ft12 : goal.returns-in-Ft12
 returns-in-Ft12 c =

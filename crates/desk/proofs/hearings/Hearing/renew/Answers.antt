@@ -1,8 +1,8 @@
 use Rattle.std.proofs.Common.{sym, refl, ap, ◌∙◌, subst}
 use Rattle.desk.specs.Hearings.{Renewed, ft12_means, ft2_means}
 use Rattle.desk.specs.declared.answer.DeskAnswer.TheVariants.{NewReceiver}
-use Rattle.desk.specs.declared.hearing.Hearing.TheVariants.{Ft12, Ft2}
-use Rattle.desk.proofs.hearing.Hearing.renew.Goals as goal
+use Rattle.desk.specs.declared.hearings.Hearing.TheVariants.{Ft12, Ft2}
+use Rattle.desk.proofs.hearings.Hearing.renew.Goals as goal
 
 pub returns-in-Ft12 : goal.returns-in-Ft12
 returns-in-Ft12 c =
