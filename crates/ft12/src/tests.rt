@@ -49,7 +49,10 @@ fn variable_frames(rt: HostRuntime) -> Result<(), Fail> {
     assert_eq!(rt; format.write(2, &[0xFF, 0x02], &mut marks)?, 88);
     assert_eq!(rt; read(&mut format, &marks), Ok(Progress::Frame(2)));
     // the sum is 01
-    assert_eq!(rt; &marks[66..77], [0, 1, 0, 0, 0, 0, 0, 0, 0, 1, 1].as_slice());
+    assert_eq!(rt;
+        &marks[66..77],
+        [0, 1, 0, 0, 0, 0, 0, 0, 0, 1, 1].as_slice()
+    );
     Ok(())
 }
 
