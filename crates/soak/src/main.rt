@@ -268,6 +268,7 @@ fn run(rt: &HostRuntime) -> anyhow::Result<()> {
     Ok(())
 }
 
+// What went wrong is told in quotes.
 fn main(rt: HostRuntime) -> anyhow::Result<()> {
-    run(&rt)
+    run(&rt).map_err(|why| anyhow!("\"{why}\""))
 }

@@ -119,6 +119,7 @@ fn run(rt: &HostRuntime) -> anyhow::Result<()> {
     print_lost(rt, "lab", lab.as_slice())
 }
 
+// What went wrong is told in quotes.
 fn main(rt: HostRuntime) -> anyhow::Result<()> {
-    run(&rt)
+    run(&rt).map_err(|why| anyhow!("\"{why}\""))
 }
