@@ -42,12 +42,12 @@ module _ (m : Model) (laws : Laws m) (kind : ℕ) (octets : List ℕ) where
         ∙ p.all_told
 
     -- at an earlier mark of the frame
-    pub record Goes_on (s : Step) : Type 0 where
+    pub record GoesOn (s : Step) : Type 0 where
       pub silent : entry s ≡ no_frame
       pub on : s.hearer.stage ≡ within (done ++ (x ∷ []))
       pub part : Part (done ++ (x ∷ [])) (y ∷ ys) s.hearer.buffer
 
-    goes_on : (w : Verdict) → m.verdict (done ++ (x ∷ [])) ≡ w → Goes_on (comes_to m.gap run buffer (length done) (count_told m done) (done ++ (x ∷ [])) w)
+    goes_on : (w : Verdict) → m.verdict (done ++ (x ∷ [])) ≡ w → GoesOn (comes_to m.gap run buffer (length done) (count_told m done) (done ++ (x ∷ [])) w)
     goes_on open_list e =
         let told = told_more open_list e ∙ append-nil (told_along m.verdict [] done) in
         record { silent = refl; on = refl; part = record { judges = p.judges.1; opened = opened_more; all_told = all_more; kept = ap (λ t. take (length t) buffer) told ∙ p.kept ∙ sym told } }
@@ -72,7 +72,7 @@ module _ (m : Model) (laws : Laws m) (kind : ℕ) (octets : List ℕ) where
       let first : x ≡ x' = cc in
       let later : ms ≡ y ∷ (ys ++ more) = cc in
       let here = e ∙ ap (judged m done run a.buffer) first in
-      let g = subst (Goes_on done x' y ys run a.buffer room begins p) (sym here) (goes_on done x' y ys run a.buffer room begins p (m.verdict (done ++ (x' ∷ []))) refl) in
+      let g = subst (GoesOn done x' y ys run a.buffer room begins p) (sym here) (goes_on done x' y ys run a.buffer room begins p (m.verdict (done ++ (x' ∷ []))) refl) in
       (g.silent, go (done ++ (x' ∷ [])) (y ∷ ys) more later g.on begins g.part)
 
   along_mark : (a : Hearer) (x : Mark) (ms : List Mark) (h : List Entry) → 255 ≤ length a.buffer → Along (hears m a x).hearer ms h → Along a (x ∷ ms) (entry (hears m a x) ∷ h)
