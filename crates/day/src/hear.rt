@@ -25,8 +25,8 @@ enum Turn {
 
 // The frame that is held, decoded; then it is released.
 fn held<F: ReadFormat>(site: Site, receiver: &mut Receiver<F>, kind: u8, buffer: &[u8]) -> Entry
-    requires in_bounds { 255 ≤ length buffer.now }
-    requires receiver_value { (standing_of receiver.old).state ≡ Holding }
+    requires room { 255 ≤ length buffer.now }
+    requires holding { (standing_of receiver.old).state ≡ Holding }
     ensures { Handed site (At F.ReadFormat.model F.ReadFormat.stands) (model_of F.ReadFormat.model) receiver.old receiver.new buffer.now kind result }
 {
     let entry = match receiver.look(buffer) {

@@ -19,7 +19,7 @@ fn at_terminal(fault: NoReading) -> Miskeyed
 
 // The reading that three words write.
 fn of_words(batch: &str, temperature: &str, viscosity: &str) -> Result<Reading, Miskeyed>
-    ensures { MatchResult result (λ x. Writes (record { batch = batch.entry.now; temperature = temperature.now; viscosity = viscosity.now }) x) (λ e. Wrong (record { batch = batch.entry.now; temperature = temperature.now; viscosity = viscosity.now }) e) }
+    ensures { MatchResult result (λ x. Writes (record { batch = batch.now; temperature = temperature.now; viscosity = viscosity.now }) x) (λ e. Wrong (record { batch = batch.now; temperature = temperature.now; viscosity = viscosity.now }) e) }
 {
     let Some(batch) = digits(0, batch.as_bytes()) else {
         return Err(Miskeyed::NoNumber(Part::Batch));

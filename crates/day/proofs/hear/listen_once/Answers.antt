@@ -10,8 +10,8 @@ held-requires g c =
     let some = c.requires.some in
     let b = comes c.args.site g.F.Fault.Fault.cause (At g.F.ReadFormat.model g.F.ReadFormat.stands) (model_of g.F.ReadFormat.model) c.args.receiver.now c.listen.new.self _ _ c.args.buffer.now c.listen.new.buffer c.in-Ok.heard c.in-Ok.ensures.2 (Frame c.in-Frame.kind c.in-Frame.octets) c.in-Frame.is some.0 some.1 some.2 in
     record {
-      in_bounds = omega arith;
-      receiver_value = holds g.F.ReadFormat.model g.F.ReadFormat.stands c.listen.new.self c.listen.new.buffer b.0 c.in-Frame.kind c.in-Frame.octets b.1 b.2.0;
+      room = omega arith;
+      holding = holds g.F.ReadFormat.model g.F.ReadFormat.stands c.listen.new.self c.listen.new.buffer b.0 c.in-Frame.kind c.in-Frame.octets b.1 b.2.0;
     }
 
 pub returns-in-Empty : goal.returns-in-Empty
