@@ -16,7 +16,7 @@ use Rattle.ft12_laws.specs.Reading.{ft12_model}
 use Rattle.ft12_laws.specs.Worked as ft12
 use Rattle.ft12_laws.specs.declared.fault.Ft12Fault.{Ft12Fault}
 use Rattle.ft12_laws.specs.declared.fault.Ft12Fault.TheVariants as fault
-use Rattle.ft12_laws.specs.declared.fault.CharacterFault.TheVariants as character-fault
+use Rattle.ft12_laws.specs.declared.fault.CharacterFault.TheVariants as character_fault
 use Rattle.checks.specs.Check as checks
 use Rattle.ft2_laws.specs.Worked as ft2
 
@@ -39,8 +39,8 @@ pub record AllWorked : Type 0 where
   pub not_after_32 : Hears (at_stage waiting 0) (ones 32 ++ character 0xE5) ending.Spent (at_stage waiting 5)
   pub of_43_marks : length (ones 32 ++ character 0xE5) ≡ 43
   -- ready, E5 with its parity mark reversed: fault 23, layer character, place 9, at the tenth mark
-  pub parity_reversed : Hears (at_stage ready 33) (take 10 (entry ParityReversed 0xE5)) (ending.Fault (record { fault = fault.Character character-fault.ParityMark; place = 9 })) (at_stage waiting 0)
-  pub its_cause : ft12_cause (fault.Character character-fault.ParityMark) ≡ record { number = 23; layer = layer.Character }
+  pub parity_reversed : Hears (at_stage ready 33) (take 10 (entry ParityReversed 0xE5)) (ending.Fault (record { fault = fault.Character character_fault.ParityMark; place = 9 })) (at_stage waiting 0)
+  pub its_cause : ft12_cause (fault.Character character_fault.ParityMark) ≡ record { number = 23; layer = layer.Character }
   -- ready, E6 in place of E5: fault 25, layer frame, place 10
   pub another_octet : Hears (at_stage ready 33) (character 0xE6) (ending.Fault (record { fault = fault.FirstCharacter; place = 10 })) (at_stage waiting 5)
   pub cause_of_it : ft12_cause fault.FirstCharacter ≡ record { number = 25; layer = layer.Frame }

@@ -11,7 +11,7 @@ use Rattle.hearing.specs.declared.answer.Ending.TheVariants as ending
 use Rattle.ft12_laws.specs.Faults.{ft12_cause}
 use Rattle.ft12_laws.specs.Reading.{ft12_model}
 use Rattle.ft12_laws.specs.declared.fault.Ft12Fault.TheVariants as fault
-use Rattle.ft12_laws.specs.declared.fault.CharacterFault.TheVariants as character-fault
+use Rattle.ft12_laws.specs.declared.fault.CharacterFault.TheVariants as character_fault
 use Rattle.ft12_laws.proofs.Worked as ft12
 use Rattle.checks.proofs.Octets as checks
 use Rattle.ft2_laws.proofs.Worked as ft2
@@ -38,7 +38,7 @@ returns c =
         of_44_marks = refl;
         not_after_32 = quiet_all ft12_cause m new (ones 32 ++ character 0xE5) ending.Spent (quiet_by m new (ones 32 ++ character 0xE5) refl) tt;
         of_43_marks = refl;
-        parity_reversed = quiet_then ft12_cause m is_ready reversed Zero (ending.Fault (record { fault = fault.Character character-fault.ParityMark; place = 9 })) (quiet_by m is_ready reversed refl) refl;
+        parity_reversed = quiet_then ft12_cause m is_ready reversed Zero (ending.Fault (record { fault = fault.Character character_fault.ParityMark; place = 9 })) (quiet_by m is_ready reversed refl) refl;
         its_cause = refl;
         another_octet = quiet_then ft12_cause m is_ready e6 One (ending.Fault (record { fault = fault.FirstCharacter; place = 10 })) (quiet_by m is_ready e6 refl) refl;
         cause_of_it = refl;
