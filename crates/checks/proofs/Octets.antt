@@ -1,8 +1,10 @@
 -- Octets and their bits, the check octet and its rule.
-use Rattle.std.proofs.Common.{◌≡◌, ℕ, zero, suc, ◌+◌, ◌-◌, ◌*◌, ◌/◌, ◌%◌, ◌^◌, ◌<◌, Bool, true, false, cond, not, List, [], ◌∷◌, ◌++◌, map, length, sym, refl, ap, ◌∙◌, subst, ap₂, append_assoc, mod-lt, mod-eq_of_lt, pow-suc, add-one, one-add, arith, length-append}
+use Rattle.std.proofs.Common.{◌≡◌, ℕ, zero, suc, ◌+◌, ◌-◌, ◌*◌, ◌/◌, ◌%◌, ◌^◌, ◌<◌, Bool, true, false, cond, not, eqb, List, [], ◌∷◌, ◌++◌, map, length, get_or, sym, refl, ap, ◌∙◌, subst, ap₂, append_assoc, mod-lt, mod-eq_of_lt, pow-suc, add-one, one-add, arith, length-append}
 use native.Mathlib.Nat.{mod-one}
+use lib.Bits.{bit_and, and_mask}
 use lib.ListN.{length-map}
 use lib.Pow.{mod-pow-add}
+use Rattle.std.proofs.lemmas.List.FromFn.{fill_by_all}
 use Rattle.checks.specs.Bits.{bit, bits, octet_bits, value, ones, odd_ones}
 use Rattle.checks.specs.Division.{RemainderOf, remainder}
 use Rattle.checks.specs.Check.{generator, remainder_bits, parity_bit, check_bits, check_octet, Rule, Worked}
@@ -11,6 +13,15 @@ use Rattle.checks.proofs.Weights.{times_digit}
 use Rattle.checks.proofs.Words.{length_bits, odd_append, ones_odd}
 use Rattle.checks.proofs.Distances.{degree, length_check}
 use Rattle.checks.proofs.Quotients.{division_law}
+
+-- a bit as the code takes it
+bit_coded : (o k : ℕ) → eqb (bit_and (o / 2 ^ k) 1) 1 ≡ bit o k
+bit_coded o k = ap (λ x. eqb x 1) (and_mask (o / 2 ^ k) 1)
+
+pub octet_coded : (o : ℕ) (bs : List Bool) → length bs ≡ 8 → get_or bs 0 false ≡ eqb (bit_and (o / 2 ^ 7) 1) 1 → get_or bs 1 false ≡ eqb (bit_and (o / 2 ^ 6) 1) 1 → get_or bs 2 false ≡ eqb (bit_and (o / 2 ^ 5) 1) 1 → get_or bs 3 false ≡ eqb (bit_and (o / 2 ^ 4) 1) 1 → get_or bs 4 false ≡ eqb (bit_and (o / 2 ^ 3) 1) 1 → get_or bs 5 false ≡ eqb (bit_and (o / 2 ^ 2) 1) 1 → get_or bs 6 false ≡ eqb (bit_and (o / 2 ^ 1) 1) 1 → get_or bs 7 false ≡ eqb (bit_and (o / 2 ^ 0) 1) 1 → bs ≡ octet_bits o
+octet_coded o bs l a b c d e f g h =
+    let whole : bs ≡ get_or bs 0 false ∷ (get_or bs 1 false ∷ (get_or bs 2 false ∷ (get_or bs 3 false ∷ (get_or bs 4 false ∷ (get_or bs 5 false ∷ (get_or bs 6 false ∷ (get_or bs 7 false ∷ []))))))) = fill_by_all (λ k. get_or bs k false) bs 8 false l (λ k h. refl) in
+    cc (bit_coded o 7, bit_coded o 6, bit_coded o 5, bit_coded o 4, bit_coded o 3, bit_coded o 2, bit_coded o 1, bit_coded o 0)
 
 pub value_lt : (u : List Bool) → value u < 2 ^ length u
 value_lt [] = omega arith
@@ -53,10 +64,6 @@ octet_of_eight u e = ap (λ n. bits n (value u)) (sym e) ∙ bits_value u
 pub value_octet : (a : ℕ) → a < 256 → value (octet_bits a) ≡ a
 value_octet a h = value_bits 8 a ∙ mod-eq_of_lt h
 
--- an octet's bits, highest first, determine the octet
-pub octet_bits_injective : (a b : ℕ) → a < 256 → b < 256 → octet_bits a ≡ octet_bits b → a ≡ b
-octet_bits_injective a b ha hb e = sym (value_octet a ha) ∙ ap value e ∙ value_octet b hb
-
 pub check_octet_lt : (u : List Bool) → check_octet u < 256
 unfolding check_octet
 check_octet_lt u = subst (λ n. value (check_bits u) < 2 ^ n) (length_check u) (value_lt (check_bits u))
@@ -64,11 +71,6 @@ check_octet_lt u = subst (λ n. value (check_bits u) < 2 ^ n) (length_check u) (
 pub check_octet_bits : (u : List Bool) → octet_bits (check_octet u) ≡ check_bits u
 unfolding check_octet
 check_octet_bits u = octet_of_eight (check_bits u) (length_check u)
-
--- eight bits are the check where their octet is the check octet
-pub check_by_octet : (u : List Bool) (c : List Bool) → length c ≡ 8 → value c ≡ check_octet u → c ≡ check_bits u
-unfolding check_octet
-check_by_octet u c l e = value_same c (check_bits u) (l ∙ sym (length_check u)) e
 
 -- a number and its inverse make ones only
 pub value_not : (u : List Bool) → suc (value (map not u) + value u) ≡ 2 ^ length u

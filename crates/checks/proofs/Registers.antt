@@ -1,17 +1,15 @@
 -- The register's octet operations against the rule.
-use Rattle.std.proofs.Common.{◌≡◌, ℕ, zero, suc, ◌-◌, ◌*◌, ◌/◌, ◌%◌, ◌^◌, ◌<◌, ◌≤◌, Bool, true, false, not, ◌&&◌, T, eqb, ◌⊎◌, List, [], ◌∷◌, ◌++◌, map, sym, refl, ap, ◌∙◌, subst, ap₂, inl, inr, append_assoc, mod-eq_of_lt, arith, eqb→eq}
+use Rattle.std.proofs.Common.{◌≡◌, ℕ, zero, suc, ◌-◌, ◌*◌, ◌%◌, ◌<◌, ◌≤◌, Bool, true, false, not, ◌&&◌, T, eqb, ◌⊎◌, List, [], ◌∷◌, ◌++◌, map, sym, refl, ap, ◌∙◌, subst, ap₂, inl, inr, append_assoc, mod-eq_of_lt, arith, eqb→eq}
 use mathlib.Core.Bool.{beq}
-use lib.Bits.{bit_xor, bit_or, bit_and, and_mask}
+use lib.Bits.{bit_xor, bit_or}
 use lib.Count.{ones_in}
 use lib.Count as count
 use mir.Val.{bool_byte}
 use Rattle.std.proofs.lemmas.Bool.{cases_eq}
-use Rattle.checks.specs.Bits.{bit, bits, octet_bits, block_bits, value, odd_ones}
+use Rattle.checks.specs.Bits.{bits, octet_bits, block_bits, value, odd_ones}
 use Rattle.checks.specs.Division.{reduced, step, remainder}
 use Rattle.checks.specs.Check.{generator, remainder_bits, check_bits, check_octet}
-use Rattle.checks.specs.Standing.{Stands}
-use Rattle.checks.specs.declared.register.Register.{Register}
-use Rattle.checks.proofs.Folding.{plus, taken, reduced_below, reduced_above, remainder_append}
+use Rattle.checks.proofs.Folding.{plus, taken, reduced_above, remainder_append}
 use Rattle.checks.proofs.Weights.{t_left, t_right}
 use Rattle.checks.proofs.Words.{odd_append}
 
@@ -21,15 +19,9 @@ entering : (r x : ℕ) (b : Bool) → r < 128 → x ≡ bool_byte b → bit_xor 
 entering r x true h e = ap₂ bit_xor (mod-eq_of_lt (omega arith)) (ap (λ y. y * 128 % 256) e)
 entering r x false h e = ap₂ bit_xor (mod-eq_of_lt (omega arith)) (ap (λ y. y * 128 % 256) e)
 
--- the two ways of the reduction
-module _ (r x : ℕ) (b : Bool) (h : r < 128) (e : x ≡ bool_byte b) where
-  pub step_below : bit_xor (r * 2 % 256) (x * 128 % 256) < 128 → bit_xor (r * 2 % 256) (x * 128 % 256) ≡ step 7 generator r b
-  step_below below =
-      sym (reduced_below 7 generator (bit_xor (r * 2 % 256) (x * 128 % 256)) below) ∙ ap (reduced 7 generator) (entering r x b h e)
-
-  pub step_above : 128 ≤ bit_xor (r * 2 % 256) (x * 128 % 256) → bit_xor (bit_xor (r * 2 % 256) (x * 128 % 256)) generator ≡ step 7 generator r b
-  step_above above =
-      sym (reduced_above 7 generator (bit_xor (r * 2 % 256) (x * 128 % 256)) above) ∙ ap (reduced 7 generator) (entering r x b h e)
+pub step_above : (r x : ℕ) (b : Bool) → r < 128 → x ≡ bool_byte b → 128 ≤ bit_xor (r * 2 % 256) (x * 128 % 256) → bit_xor (bit_xor (r * 2 % 256) (x * 128 % 256)) generator ≡ step 7 generator r b
+step_above r x b h e above =
+    sym (reduced_above 7 generator (bit_xor (r * 2 % 256) (x * 128 % 256)) above) ∙ ap (reduced 7 generator) (entering r x b h e)
 
 pub rest_push : (r s : ℕ) (b : Bool) (u : List Bool) → s ≡ step 7 generator r b → r ≡ remainder 7 generator u → s ≡ remainder 7 generator (u ++ (b ∷ []))
 rest_push r s b u e is = e ∙ ap (λ x. step 7 generator x b) is ∙ sym (remainder_append 7 generator u (b ∷ []) 0)
@@ -86,25 +78,7 @@ coded_ruled r false h = eqb→eq (coded r false) (ruled r false) (t_right (eqb (
 pub coded_check : (r : ℕ) (odd : Bool) (u : List Bool) → r < 128 → r ≡ remainder 7 generator u → odd ≡ odd_ones u → coded r odd ≡ check_octet u
 coded_check r odd u h er eo = coded_ruled r odd h ∙ ap₂ ruled er eo ∙ sym (check_ruled u)
 
--- ---- an octet, and a block
-
-bit_coded : (o k : ℕ) → eqb (bit_and (o / 2 ^ k) 1) 1 ≡ bit o k
-bit_coded o k = ap (λ x. eqb x 1) (and_mask (o / 2 ^ k) 1)
-
-bits_next : (k o : ℕ) → 0 < k → bits k o ≡ bit o (k - 1) ∷ bits (k - 1) o
-bits_next zero o h = absurd (omega (arith, h))
-bits_next (suc j) o h = let e : j ≡ suc j - 1 = omega arith in ap (λ m. bit o m ∷ bits m o) e
-
--- the next bit of an octet taken: what was taken and what is to come still make the octet
-pub bit_more : (before after : Register) (o k : ℕ) (u x : List Bool) → 0 < k → x ++ bits k o ≡ octet_bits o → Stands before (u ++ x)
-    → ((v : List Bool) → Stands before v → Stands after (v ++ (eqb (bit_and (o / 2 ^ (k - 1)) 1) 1 ∷ [])))
-    → (y : List Bool) × (y ++ bits (k - 1) o ≡ octet_bits o) × Stands after (u ++ y)
-bit_more before after o k u x h e is take =
-    let b : Bool = bit o (k - 1) in (
-      x ++ (b ∷ []),
-      append_assoc x (b ∷ []) (bits (k - 1) o) ∙ ap (λ v. x ++ v) (sym (bits_next k o h)) ∙ e,
-      subst (Stands after) (ap (λ c. (u ++ x) ++ (c ∷ [])) (bit_coded o (k - 1)) ∙ append_assoc u x (b ∷ [])) (take (u ++ x) is),
-    )
+-- ---- a block
 
 pub block_push : (octets : List ℕ) (o : ℕ) → block_bits (octets ++ (o ∷ [])) ≡ block_bits octets ++ octet_bits o
 block_push [] o = refl

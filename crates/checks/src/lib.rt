@@ -4,4 +4,5 @@
 pub mod block;
 pub mod distance;
 pub mod division;
+pub mod octet;
 pub mod register;

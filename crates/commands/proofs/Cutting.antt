@@ -1,5 +1,6 @@
 -- Words cut from a text, one after the other.
 use Rattle.std.proofs.Common.{◌≡◌, ℕ, ◌<◌, List, [], ◌∷◌, ◌++◌, map, length, Some, sym, refl, ap, ◌∙◌, subst}
+use Rattle.std.proofs.lemmas.List.{map_push}
 use Rattle.std.specs.Char.{is_whitespace, is_not_whitespace}
 use Rattle.std.specs.Str.{NoCharPasses, EmptyOrStartsWithPassing}
 use Rattle.commands.specs.Octets.{octet_of}
@@ -19,13 +20,6 @@ pub record Sofar (text rest octets : List ℕ) : Type 0 where
   pub words : List (List ℕ)
   pub cuts : Cuts text words rest
   pub writes : map octet_of words ≡ map Some octets
-
-pub none_yet : (text : List ℕ) → Sofar text text []
-none_yet text = record { words = []; cuts = refl; writes = refl }
-
-map_push : {A B : Type 0} (f : A → B) (xs : List A) (x : A) → map f (xs ++ (x ∷ [])) ≡ map f xs ++ (f x ∷ [])
-map_push f [] x = refl
-map_push f (y ∷ xs) x = ap (λ r. f y ∷ r) (map_push f xs x)
 
 pub one_more : {text at octets : List ℕ} → Sofar text at octets → (word rest : List ℕ) (octet : ℕ) → First at word rest → octet_of word ≡ Some octet → Sofar text rest (octets ++ (octet ∷ []))
 one_more {text} {at} {octets} old word rest octet first e = record {

@@ -1,3 +1,5 @@
+pub mod Answers
+pub mod Messages
 pub mod Octets
 pub mod Orders
 pub mod Texts

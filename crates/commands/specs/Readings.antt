@@ -3,10 +3,9 @@ use Rattle.std.specs.Prelude.{◌≡◌, ℕ, ◌⊎◌, List, vec_items}
 use Rattle.std.specs.Borrow.{Bor}
 use Rattle.std.specs.Global.{Vec}
 use Rattle.std.specs.Str.Parse.{IsNumeral, without_leading_plus}
-use Rattle.commands.specs.Texts.{Blank, Decimal, First, NoNumber, Spoilt, Writes}
+use Rattle.commands.specs.Texts.{Decimal, First, NextNumber, NoNumber, Spoilt, Writes}
 use Rattle.commands.specs.declared.command.Command.{Command}
-use Rattle.commands.specs.declared.command.Command.TheVariants.{Choose, Work}
-use Rattle.commands.specs.declared.command.Order.TheVariants.{Take}
+use Rattle.commands.specs.declared.command.Command.TheVariants.{Choose}
 use Rattle.commands.specs.declared.misread.Misread.{Misread}
 use Rattle.commands.specs.declared.misread.Misread.TheVariants.{BadNumber, BadOctet, ExtraWord, NoMemory}
 use Rattle.commands.specs.declared.misread.NumberFault.{NumberFault}
@@ -29,12 +28,8 @@ Spoils text e = (e ≡ NoMemory) ⊎ ((word : Bor (List ℕ)) × (e ≡ BadOctet
 abbrev pub NotNumber : List ℕ → NumberFault → Type 0
 NotNumber text e = (word : Bor (List ℕ)) × (word.now ≡ text) × (((e ≡ NotDecimal word) × (IsNumeral 10 (without_leading_plus text) → ⊥)) ⊎ ((e ≡ TooLarge word) × ((n : ℕ) → Decimal text n → ⊥)))
 
--- as many marks as the one word says
-abbrev pub Counted : List ℕ → Command → Type 0
-Counted text c = (n : ℕ) × (word rest : List ℕ) × (c ≡ Work (Take n)) × First text word rest × Decimal word n × Blank rest
-
 -- no number, or one word too many behind it
 abbrev pub Miscounts : List ℕ → Misread → Type 0
 Miscounts text e =
     ((fault : NumberFault) × (e ≡ BadNumber fault) × NoNumber text fault)
-    ⊎ ((n : ℕ) × (word at : List ℕ) × First text word at × Decimal word n × Extra at e)
+    ⊎ ((n : ℕ) × (at : List ℕ) × NextNumber text n at × Extra at e)

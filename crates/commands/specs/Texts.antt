@@ -38,6 +38,14 @@ Cuts text (w ∷ ws) rest = (next : List ℕ) × First text w next × Cuts next 
 abbrev pub Decimal : List ℕ → ℕ → Type 0
 Decimal word n = IsNumeral 10 (without_leading_plus word) × (digits_value 10 (without_leading_plus word) < 2 ^ 16) × (n ≡ digits_value 10 (without_leading_plus word))
 
+-- the text begins with a word that writes the number, and the rest is left
+abbrev pub NextNumber : List ℕ → ℕ → List ℕ → Type 0
+NextNumber text n rest = (word : List ℕ) × First text word rest × Decimal word n
+
+-- a number, and no word behind it
+abbrev pub OneNumber : List ℕ → ℕ → Type 0
+OneNumber text n = (rest : List ℕ) × NextNumber text n rest × Blank rest
+
 -- the word that chooses a record of a kind
 abbrev pub kind_word : RecordKind → List ℕ
 kind_word kind.Marks = codes "marks"
@@ -49,7 +57,7 @@ Says text order.Nothing rest = ⊥
 Says text (order.Put layer.Reversal) rest = First text (codes "reversal") rest
 Says text (order.Put layer.Sampling) rest = First text (codes "sampling") rest
 Says text order.Uncover rest = First text (codes "bare") rest
-Says text (order.Take n) rest = (next word : List ℕ) × First text (codes "take") next × First next word rest × Decimal word n
+Says text (order.Take n) rest = (next : List ℕ) × First text (codes "take") next × NextNumber next n rest
 Says text order.Describe rest = First text (codes "line") rest
 Says text order.Help rest = First text (codes "help") rest
 

@@ -7,4 +7,5 @@ pub mod misread;
 pub mod octet;
 #[cfg(test)]
 mod tests;
+pub mod words;
 pub mod work;

@@ -6,22 +6,16 @@ ghost use Rattle.commands.specs.Octets.{digit_of, octet_of};
 fn hex_digit(symbol: u8) -> Option<u8>
     ensures { result ≡ digit_of symbol }
 {
-    match symbol {
-        b'0'..=b'9' => Some(symbol - b'0'),
-        b'A'..=b'F' => Some(symbol - b'A' + 10),
-        b'a'..=b'f' => Some(symbol - b'a' + 10),
-        _ => None,
-    }
+    let digit = char::from(symbol).to_digit(16)?;
+    Some(digit as u8)
 }
 
 // The octet that a word of two hex digits writes.
 pub fn octet(word: &str) -> Option<u8>
     ensures { result ≡ octet_of word.now }
 {
-    let [high, low] = word.as_bytes() else {
-        return None;
-    };
-    let high = hex_digit(*high)?;
-    let low = hex_digit(*low)?;
-    Some(16 * high + low)
+    match word.as_bytes() {
+        [high, low] => Some(16 * hex_digit(*high)? + hex_digit(*low)?),
+        _ => None,
+    }
 }

@@ -1,19 +1,17 @@
 // The console: each line of standard input is a command, and is answered by one line.
 #![tactic(auto)]
 
-use commands::answer::Answer;
 use commands::command::Command;
 use commands::work::obey;
 use desk::desk::Desk;
 use desk::reading::read;
+use desk::report::Report;
 use stacks::record::{Record, RecordKind};
 use stacks::stack::Stack;
+use std::fmt::Display;
 use std::io;
 use std::io::{BufRead, BufReader, Stdin};
 use std::str::from_utf8;
-use text::{Report, Text};
-
-mod text;
 
 // A record as it was chosen.
 #[derive(Drop)]
@@ -22,17 +20,28 @@ struct Choice {
     octets: Vec<u8>,
 }
 
+// Prints an answer, or why there is none.
+fn say<T: Display + Drop, E: Display + Drop>(
+    rt: &HostRuntime,
+    answer: Result<T, E>,
+) -> io::Result<()> {
+    match answer {
+        Ok(answer) => println!(rt; "{answer}"),
+        Err(undone) => println!(rt; "{undone}"),
+    }
+}
+
 // Answers commands at a record, until another is chosen or the input ends. The desk stays from record to record.
 fn serve(
     rt: &HostRuntime,
     input: &mut BufReader<Stdin>,
     kind: RecordKind,
     record: Record<'_>,
-    desk: Desk,
-) -> io::Result<Option<(Choice, Desk)>> {
+    desk: &mut Desk,
+) -> io::Result<Option<Choice>> {
     let heap = rt.alloc();
-    let mut desk = desk;
     let mut line = Stack::Bare(record);
+    // counted, since every loop is proved to end and an input may be of any length
     for _ in 0..u64::MAX {
         let mut typed = Vec::new(heap);
         if input.read_until(b'\n', &mut typed)? == 0 {
@@ -45,35 +54,32 @@ fn serve(
         if let Some(said) = read(heap, text) {
             match said {
                 Ok(order) => {
-                    let (next, answer) = desk.obey(heap, &mut line, order);
-                    desk = next;
-                    rt.println(Text(Report {
+                    let answer = desk.obey(heap, &mut line, order);
+                    let report = answer.map(|answer| Report {
                         answer,
                         marks: desk.marks(),
                         frame: desk.frame(),
-                    }))?;
+                    });
+                    say(rt, report)?;
                 }
-                Err(misread) => rt.println(Text(misread))?,
+                Err(misread) => println!(rt; "{misread}")?,
             }
             continue;
         }
         match Command::read(heap, text) {
-            Ok(Command::Choose(kind, octets)) => {
-                let count = octets.len();
-                match Record::new(kind, octets.as_slice()) {
-                    Ok(_) => {
-                        rt.println(Text(Answer::Chosen(kind, count)))?;
-                        return Ok(Some((Choice { kind, octets }, desk)));
-                    }
-                    Err(refusal) => rt.println(Text(Answer::Refused(refusal)))?,
+            Ok(Command::Choose(kind, octets)) => match Record::new(kind, octets.as_slice()) {
+                Ok(_) => {
+                    println!(rt; "ok {kind}, {} octets", octets.len())?;
+                    return Ok(Some(Choice { kind, octets }));
                 }
-            }
+                Err(refusal) => println!(rt; "refused {}: {refusal}", refusal.number())?,
+            },
             Ok(Command::Work(order)) => {
-                let (next, answer) = obey(heap, kind, line, order);
+                let (answer, next) = obey(heap, kind, line, order);
                 line = next;
-                rt.println(Text(answer))?;
+                say(rt, answer)?;
             }
-            Err(misread) => rt.println(Text(misread))?,
+            Err(misread) => println!(rt; "{misread}")?,
         }
     }
     Ok(None)
@@ -86,18 +92,16 @@ fn main(rt: HostRuntime) -> io::Result<()> {
         octets: Vec::new(rt.alloc()),
     };
     let mut desk = Desk::new(rt.alloc())?;
+    // counted for the same reason
     for _ in 0..u64::MAX {
         // what was chosen is no record that is refused
         let Ok(record) = Record::new(choice.kind, choice.octets.as_slice()) else {
             break;
         };
-        match serve(&rt, &mut input, choice.kind, record, desk)? {
-            Some((next, same)) => {
-                choice = next;
-                desk = same;
-            }
-            None => break,
-        }
+        let Some(next) = serve(&rt, &mut input, choice.kind, record, &mut desk)? else {
+            break;
+        };
+        choice = next;
     }
     Ok(())
 }

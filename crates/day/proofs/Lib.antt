@@ -1,4 +1,5 @@
-pub mod Entries
+pub mod Above
+pub mod Chains
 pub mod Runs
 pub mod Sofar
 pub mod Turns

@@ -1,5 +1,5 @@
 -- What a listen's marks come to.
-use Rattle.std.proofs.Common.{◌≡◌, ℕ, ◌≤◌, Bool, true, false, cond, ltb, List, [], ◌∷◌, ◌++◌, length, take, sym, refl, ap, ◌∙◌, subst, inl, inr, arith}
+use Rattle.std.proofs.Common.{◌≡◌, ℕ, Bool, true, false, cond, ltb, List, [], ◌∷◌, ◌++◌, length, take, sym, refl, ap, ◌∙◌, subst, inl, inr}
 use Rattle.lines.specs.declared.mark.Mark.{Mark}
 use Rattle.lines.specs.declared.mark.Mark.TheVariants.{Zero, One, Bad}
 use Rattle.formats.specs.Laws.{Model}
@@ -8,6 +8,7 @@ use Rattle.hearing.specs.Calls.{Brings, Ends}
 use Rattle.hearing.specs.Rules.{Event, Hearer, Stage, by_stage, comes_to, count_told, fault, frame, hears, holding, nothing, ready, run_after, waiting, within}
 use Rattle.hearing.specs.declared.answer.Ending.{Ending}
 use Rattle.hearing.specs.declared.answer.Ending.TheVariants as ending
+use Rattle.hearing.specs.declared.fault.ReceiverFault.{ReceiverFault}
 use Rattle.day.specs.Hearing.{Free, damaged, going_on, outcomes, run, sound}
 
 -- the stage after a mark that brought this: a frame is held, and else none is
@@ -41,7 +42,7 @@ abbrev pub released : Hearer → Hearer
 released a = record { stage = ready; run = a.run; buffer = a.buffer }
 
 -- from the hearer a along the marks `whole` to b, with the marks `rest` to come
-abbrev pub Came : {E : Type 0} → (E → Cause) → Model → Hearer → List Mark → List Mark → Ending E → Hearer → Type 0
+abbrev pub Came : {E : Type 0} → (E → Cause) → Model → Hearer → List Mark → List Mark → Ending (ReceiverFault E) → Hearer → Type 0
 Came cause m a whole rest (ending.Frame kind count) b = (b.stage ≡ holding kind count) × (run m a whole ≡ sound kind (take count b.buffer) ∷ run m (released b) rest)
 Came cause m a whole rest (ending.Fault why) b = Free b.stage × (run m a whole ≡ damaged (cause why.fault) why.place ∷ run m b rest)
 Came cause m a whole rest ending.Spent b = Free b.stage × (run m a whole ≡ run m b rest)
@@ -49,20 +50,20 @@ Came cause m a whole rest ending.Empty b = Free b.stage × (run m a whole ≡ ru
 
 module _ {E : Type 0} (cause : E → Cause) (m : Model) (rest : List Mark) where
   -- the marks of another hearer come to the same
-  earlier : (a h : Hearer) (whole later : List Mark) (end : Ending E) (b : Hearer) → run m a whole ≡ run m h later → Came cause m h later rest end b → Came cause m a whole rest end b
+  earlier : (a h : Hearer) (whole later : List Mark) (end : Ending (ReceiverFault E)) (b : Hearer) → run m a whole ≡ run m h later → Came cause m h later rest end b → Came cause m a whole rest end b
   earlier a h whole later (ending.Frame kind count) b p c = (c.0, p ∙ c.1)
   earlier a h whole later (ending.Fault why) b p c = (c.0, p ∙ c.1)
   earlier a h whole later ending.Spent b p c = (c.0, p ∙ c.1)
   earlier a h whole later ending.Empty b p c = (c.0, p ∙ c.1)
 
-  quiet : (a b : Hearer) (end : Ending E) → Free a.stage → Brings cause m a [] end b → Came cause m a rest rest end b
+  quiet : (a b : Hearer) (end : Ending (ReceiverFault E)) → Free a.stage → Brings cause m a [] end b → Came cause m a rest rest end b
   quiet a b (ending.Frame kind count) free q = absurd q.0
   quiet a b (ending.Fault why) free q = absurd q.0
   quiet a b ending.Spent free q = (subst (λ h. Free h.stage) (sym q.1) free, ap (λ h. run m h rest) (sym q.1))
   quiet a b ending.Empty free q = (subst (λ h. Free h.stage) (sym q.1) free, ap (λ h. run m h rest) (sym q.1))
 
   -- the mark that ends the listen
-  last_mark : (e : Event) (h b : Hearer) (end : Ending E) (a : Hearer) (whole later : List Mark) → After e h.stage → run m a whole ≡ outcomes e h.buffer ++ run m (going_on e h) later → later ≡ rest → b ≡ h → Ends cause e end → Came cause m a whole rest end b
+  last_mark : (e : Event) (h b : Hearer) (end : Ending (ReceiverFault E)) (a : Hearer) (whole later : List Mark) → After e h.stage → run m a whole ≡ outcomes e h.buffer ++ run m (going_on e h) later → later ≡ rest → b ≡ h → Ends cause e end → Came cause m a whole rest end b
   last_mark e h b (ending.Frame kind count) a whole later shape p q s ends = (
     subst (λ x. x.stage ≡ holding kind count) (sym s) (subst (λ x. After x h.stage) ends shape),
     p ∙ ap (λ x. outcomes x h.buffer ++ run m (going_on x h) later) ends ∙ ap (λ xs. sound kind (take count h.buffer) ∷ run m (released h) xs) q ∙ ap (λ x. sound kind (take count x.buffer) ∷ run m (released x) rest) (sym s),
@@ -74,7 +75,7 @@ module _ {E : Type 0} (cause : E → Cause) (m : Model) (rest : List Mark) where
   last_mark e h b ending.Spent a whole later shape p q s ends = absurd ends
   last_mark e h b ending.Empty a whole later shape p q s ends = absurd ends
 
-  pub came : (marks : List Mark) (a : Hearer) (end : Ending E) (b : Hearer) → Free a.stage → Brings cause m a marks end b → Came cause m a (marks ++ rest) rest end b
+  pub came : (marks : List Mark) (a : Hearer) (end : Ending (ReceiverFault E)) (b : Hearer) → Free a.stage → Brings cause m a marks end b → Came cause m a (marks ++ rest) rest end b
   came [] a end b free brings = quiet a b end free brings
   came (x ∷ xs) a end b free (inl goes) =
       let h = (hears m a x).hearer in
@@ -83,8 +84,3 @@ module _ {E : Type 0} (cause : E → Cause) (m : Model) (rest : List Mark) where
       earlier a h (x ∷ (xs ++ rest)) (xs ++ rest) end b p (came xs h end b free' goes.1)
   came (x ∷ xs) a end b free (inr ends) =
       last_mark (hears m a x).event (hears m a x).hearer b end a (x ∷ (xs ++ rest)) (xs ++ rest) (heard_after m a x free) refl (ap (λ ys. ys ++ rest) ends.1) ends.2 ends.0
-
-  -- a frame or a fault is brought by a mark
-  pub some_mark : (marks : List Mark) (a b : Hearer) (end : Ending E) → ((x : Brings cause m a [] end b) → ⊥) → Brings cause m a marks end b → 1 ≤ length marks
-  some_mark [] a b end loud brings = absurd (loud brings)
-  some_mark (x ∷ xs) a b end loud brings = omega arith

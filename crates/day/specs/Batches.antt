@@ -5,6 +5,12 @@ use Rattle.day.specs.declared.batches.Row.{Row}
 use Rattle.day.specs.declared.entry.Entry.{Entry}
 use Rattle.day.specs.declared.entry.Entry.TheVariants as entry
 
+-- the reading of an entry, if it has one
+abbrev pub reading_in : Entry → Option Reading
+reading_in (entry.Reading x) = Some x
+reading_in (entry.NoReading why) = None
+reading_in (entry.Damaged fault) = None
+
 -- a reading of the batch, or any reading
 abbrev pub is_wanted : Option ℕ → Reading → Bool
 is_wanted None x = true
@@ -14,7 +20,7 @@ is_wanted (Some batch) x = x.batch == batch
 abbrev pub after_entry : Option ℕ → Option Reading → Entry → Option Reading
 after_entry batch found (entry.Reading x) = cond (is_wanted batch x) (Some x) found
 after_entry batch found (entry.NoReading why) = found
-after_entry batch found (entry.Damaged damage) = found
+after_entry batch found (entry.Damaged fault) = found
 
 -- the last reading of the batch, or of all
 abbrev pub last_of : Option ℕ → Option Reading → List Entry → Option Reading
@@ -30,7 +36,7 @@ lower (Some a) (Some b) = Some (min a b)
 abbrev pub lower_entry : ℕ → Option ℕ → Entry → Option ℕ
 lower_entry after found (entry.Reading x) = cond (nat_lt after x.batch) (lower found (Some x.batch)) found
 lower_entry after found (entry.NoReading why) = found
-lower_entry after found (entry.Damaged damage) = found
+lower_entry after found (entry.Damaged fault) = found
 
 -- the lowest batch above a number of which there is a reading
 abbrev pub least_above : ℕ → Option ℕ → List Entry → Option ℕ
@@ -45,6 +51,11 @@ row_of line lab (Some batch) = Some (record { batch = batch; line = last_of (Som
 -- the row of the next batch above a number
 abbrev pub row_after : List Entry → List Entry → ℕ → Option Row
 row_after line lab after = row_of line lab (lower (least_above after None line) (least_above after None lab))
+
+-- the batch of the row that came last, after one row more
+abbrev pub standing_after : ℕ → Option Row → ℕ
+standing_after after None = after
+standing_after after (Some row) = row.batch
 
 -- lab less line, where there are both
 abbrev pub difference_of : Option Reading → Option Reading → Option ℤ

@@ -13,14 +13,6 @@ abbrev pub Suits : Site → Reading → Type 0
 Suits Line x = Unit {0}
 Suits Lab x = x.temperature ≡ 400
 
--- a reading at a site
-abbrev pub Placed : Site → Reading → Entry → Type 0
-Placed site x (entry.Reading y) = (y ≡ x) × Suits site x
-Placed site x (entry.NoReading (Kind k)) = ⊥
-Placed site x (entry.NoReading (Octets e)) = ⊥
-Placed site x (entry.NoReading NotBath) = Suits site x → ⊥
-Placed site x (entry.Damaged d) = ⊥
-
 -- the octets are the reading
 abbrev pub Spells : List ℕ → Reading → Type 0
 Spells octets x = octets ≡ octets_of x.batch x.temperature x.viscosity

@@ -1,5 +1,5 @@
 -- What listening to a whole capture comes to, mark by mark, where each frame is released at once.
-use Rattle.std.specs.Prelude.{◌≡◌, ℕ, ◌<◌, List, [], ◌∷◌, ◌++◌, length, take, replicate}
+use Rattle.std.specs.Prelude.{◌≡◌, ℕ, List, [], ◌∷◌, ◌++◌, take, replicate}
 use Rattle.lines.specs.declared.mark.Mark.{Mark}
 use Rattle.formats.specs.Laws.{Model}
 use Rattle.formats.specs.Verdicts.{Cause}
@@ -8,8 +8,6 @@ use Rattle.day.specs.Decoding.{Decoded}
 use Rattle.day.specs.declared.entry.Entry.{Entry}
 use Rattle.day.specs.declared.entry.Entry.TheVariants.{Damaged}
 use Rattle.day.specs.declared.entry.Site.{Site}
-use Rattle.day.specs.declared.hear.Turn.{Turn}
-use Rattle.day.specs.declared.hear.Turn.TheVariants.{Noted, Nothing, Over}
 
 -- a frame was sound, of a kind with its user octets; or it was damaged, with the cause and the place
 pub data Outcome : Type 0 where
@@ -55,31 +53,7 @@ Free ready = Unit {0}
 Free (within list) = Unit {0}
 Free (holding kind octets) = ⊥
 
--- what one listen notes, of the outcomes of its marks
-abbrev pub Notes : Site → Turn → List Outcome → Type 0
-Notes site (Noted e) os = (o : Outcome) × (os ≡ o ∷ []) × Tells site o e
-Notes site Nothing os = os ≡ []
-Notes site Over os = os ≡ []
-
--- what a listen adds to the entries
-abbrev pub Adds : Turn → List Entry → List Entry → Type 0
-Adds (Noted e) es es' = es' ≡ es ++ (e ∷ [])
-Adds Nothing es es' = es' ≡ es
-Adds Over es es' = es' ≡ es
-
--- the marks to come become fewer, or are at an end
-abbrev pub Goes : Turn → List Mark → List Mark → Type 0
-Goes (Noted e) before after = length after < length before
-Goes Nothing before after = length after < length before
-Goes Over before after = after ≡ []
-
 -- A frame of a kind that was held is decoded from the frame buffer, and the receiver is ready.
 pub record Handed {R : Type 0} (site : Site) (at : R → List ℕ → Hearer → Type 0) (model : R → Model) (r r' : R) (buffer : List ℕ) (kind : ℕ) (entry : Entry) : Type 0 where
   pub same_format : model r' ≡ model r
   pub each : (a : Hearer) → at r buffer a → at r' buffer (record { stage = ready; run = a.run; buffer = a.buffer }) × ((k count : ℕ) → a.stage ≡ holding k count → Decoded site kind (take count buffer) entry)
-
--- One listen, by the marks to come before and after it.
-pub record Turned {R : Type 0} (site : Site) (at : R → List ℕ → Hearer → Type 0) (model : R → Model) (r r' : R) (before after : List Mark) (buffer buffer' : List ℕ) (turn : Turn) : Type 0 where
-  pub same_format : model r' ≡ model r
-  pub goes : Goes turn before after
-  pub each : (a : Hearer) → at r buffer a → Free a.stage → (b : Hearer) × at r' buffer' b × Free b.stage × ((os : List Outcome) × (run (model r) a before ≡ os ++ run (model r) b after) × Notes site turn os)

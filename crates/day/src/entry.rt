@@ -1,5 +1,8 @@
 // What was heard of each frame.
-use formats::fault::Layer;
+ghost use Rattle.std.specs.Prelude.{◌≡◌};
+ghost use Rattle.day.specs.Batches.{reading_in};
+
+use hearing::fault::ToldFault;
 use readings::reading::Reading;
 use readings::refusal::NoReading;
 
@@ -20,17 +23,22 @@ pub enum Odd {
     NotBath,
 }
 
-// A damaged frame: its fault, and the number of the mark at which that showed.
-#[derive(Clone, Copy)]
-pub struct Damage {
-    pub number: u8,
-    pub layer: Layer,
-    pub place: u16,
-}
-
 #[derive(Clone, Copy)]
 pub enum Entry {
     Reading(Reading),
     NoReading(Odd),
-    Damaged(Damage),
+    // a damaged frame: its fault, and the number of the mark at which that showed
+    Damaged(ToldFault),
+}
+
+impl Entry {
+    // The reading, where the frame was sound and held one.
+    pub fn reading(&self) -> Option<Reading>
+        ensures { result ≡ reading_in self.now }
+    {
+        match *self {
+            Entry::Reading(reading) => Some(reading),
+            Entry::NoReading(_) | Entry::Damaged(_) => None,
+        }
+    }
 }

@@ -6,3 +6,4 @@ pub mod decode;
 pub mod entry;
 pub mod hear;
 pub mod layers;
+pub mod text;

@@ -1,35 +1,50 @@
 -- What the calls to a receiver do, with their answers in the desk's words. F is the type of the format.
-use Rattle.std.specs.Prelude.{◌≡◌, ℕ, List, Result}
+use Rattle.std.specs.Prelude.{◌≡◌, ℕ, List, length, Ok, Result, vec_items}
 use Rattle.lines.specs.declared.mark.Mark.{Mark}
 use Rattle.formats.specs.Answers.{GapWritten, Written}
 use Rattle.formats.specs.Laws.{Model}
-use Rattle.formats.specs.Verdicts.{Cause}
+use Rattle.formats.specs.declared.fault.Fault.{Ghosts as Faults}
+use Rattle.formats.specs.declared.format.ReadFormat.{Ghosts as Reads}
 use Rattle.formats.specs.declared.refusal.WriteRefusal.{WriteRefusal}
-use Rattle.hearing.specs.Calls as calls
+use Rattle.hearing.specs.Calls.{Begun, Listened, Looked, Released}
 use Rattle.hearing.specs.declared.answer.Heard.{Heard}
+use Rattle.hearing.specs.declared.fault.ReceiverFault.{ReceiverFault}
 use Rattle.hearing.specs.declared.refusal.ReceiverRefusal.{ReceiverRefusal}
 use Rattle.receiver.specs.Places.{At, model_of, standing_of}
 use Rattle.receiver.specs.declared.receiver.Receiver.{Receiver}
-use Rattle.desk.specs.Answers.{heard, looked, released, wrote}
+use Rattle.desk.specs.Answers.{answered, heard}
 use Rattle.desk.specs.declared.answer.DeskAnswer.{DeskAnswer}
+use Rattle.desk.specs.declared.answer.DeskAnswer.TheVariants as answer
+use Rattle.desk.specs.declared.answer.DeskRefusal.TheVariants as refusal
+use Rattle.desk.specs.declared.answer.Undone.{Undone}
+use Rattle.desk.specs.declared.hearings.Buffers.{Buffers}
+use Rattle.desk.specs.declared.hearings.Call.{Call}
+use Rattle.desk.specs.declared.hearings.Call.TheVariants as call
 
--- a listen: what the receiver's own call answered is answered
-abbrev pub Listening : {F E L : Type 0} → (E → Cause) → (F → Model) → (F → List Mark → Type 0) → (L → List Mark) → ℕ → Receiver F → Receiver F → L → L → List ℕ → List ℕ → DeskAnswer → Type 0
-Listening {F} {E} cause model stands pending budget r r' l l' frame frame' a =
-    (answer : Result (Heard E) ReceiverRefusal) × calls.Listened cause (At model stands) (model_of model) standing_of pending budget r r' l l' frame frame' answer × (a ≡ heard cause answer)
+module _ {F E : Type 0} {read : Reads F E} {fault : Faults E} where
+  -- a new receiver
+  abbrev pub New : Model → Receiver F E read fault → Type 0
+  New m r = Begun At standing_of r × (model_of r ≡ m)
 
--- a look: as many octets as the receiver's own call found
-abbrev pub Looking : {F : Type 0} → (F → Model) → (F → List Mark → Type 0) → Receiver F → List ℕ → DeskAnswer → Type 0
-Looking model stands r frame a = (answer : Result (List ℕ) ReceiverRefusal) × calls.Looked (At model stands) standing_of r frame answer × (a ≡ looked answer)
-
--- a release
-abbrev pub Releasing : {F : Type 0} → (F → Model) → (F → List Mark → Type 0) → Receiver F → Receiver F → DeskAnswer → Type 0
-Releasing model stands r r' a = (answer : Result (Unit {0}) ReceiverRefusal) × calls.Released (At model stands) (model_of model) standing_of r r' answer × (a ≡ released answer)
-
--- a frame written
-abbrev pub Writing : Model → ℕ → List ℕ → List ℕ → List ℕ → DeskAnswer → Type 0
-Writing m kind octets marks marks' a = (answer : Result ℕ WriteRefusal) × Written m kind octets marks answer marks' × (a ≡ wrote answer)
-
--- a gap written
-abbrev pub WritingGap : Model → List ℕ → List ℕ → DeskAnswer → Type 0
-WritingGap m marks marks' a = (answer : Result ℕ WriteRefusal) × GapWritten m marks answer marks' × (a ≡ wrote answer)
+  -- A call, and what was there before and after it: the receiver, the line and the buffers. What the receiver's or the format's
+  -- own call answered is answered.
+  abbrev pub CarriedOut : {L : Type 0} → (L → List Mark) → Call → Receiver F E read fault → Receiver F E read fault → L → L → Buffers → Buffers → Result DeskAnswer Undone → Type 0
+  CarriedOut pending call.New r r' l l' b b' a =
+      (a ≡ Ok answer.NewReceiver) × New (model_of r) r' × (l' ≡ l) × (b' ≡ b)
+  CarriedOut pending (call.Write kind octets) r r' l l' b b' a =
+      ((w : Result ℕ WriteRefusal) × Written (model_of r) kind (vec_items octets) (vec_items b.marks) w (vec_items b'.marks) × (a ≡ answered answer.Wrote refusal.Write w))
+      × (r' ≡ r) × (l' ≡ l) × (b'.frame ≡ b.frame)
+  CarriedOut pending call.Gap r r' l l' b b' a =
+      ((w : Result ℕ WriteRefusal) × GapWritten (model_of r) (vec_items b.marks) w (vec_items b'.marks) × (a ≡ answered answer.Wrote refusal.Write w))
+      × (r' ≡ r) × (l' ≡ l) × (b'.frame ≡ b.frame)
+  CarriedOut pending (call.Listen budget) r r' l l' b b' a =
+      ((w : Result (Heard (ReceiverFault E)) ReceiverRefusal) × Listened fault.cause At model_of standing_of pending budget r r' l l' (vec_items b.frame) (vec_items b'.frame) w × (a ≡ answered (heard fault.cause) refusal.Receiver w))
+      × (b'.marks ≡ b.marks)
+  CarriedOut pending call.Look r r' l l' b b' a =
+      ((w : Result (List ℕ) ReceiverRefusal) × Looked At standing_of r (vec_items b.frame) w × (a ≡ answered (λ octets. answer.Looked (length octets)) refusal.Receiver w))
+      × (r' ≡ r) × (l' ≡ l) × (b' ≡ b)
+  CarriedOut pending call.Release r r' l l' b b' a =
+      ((w : Result (Unit {0}) ReceiverRefusal) × Released At model_of standing_of r r' w × (a ≡ answered (λ _. answer.Released) refusal.Receiver w))
+      × (l' ≡ l) × (b' ≡ b)
+  CarriedOut pending call.State r r' l l' b b' a =
+      (a ≡ Ok (answer.Stands (standing_of r))) × (r' ≡ r) × (l' ≡ l) × (b' ≡ b)

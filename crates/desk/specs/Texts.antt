@@ -4,7 +4,7 @@ use Rattle.std.specs.Borrow.{Bor}
 use Rattle.std.specs.Global.{Vec}
 use Rattle.std.specs.Str.Parse.{IsNumeral, without_leading_plus}
 use Rattle.commands.specs.Readings.{Extra, Miscounts, Spoils}
-use Rattle.commands.specs.Texts.{Blank, Decimal, First, NoneOf, Writes}
+use Rattle.commands.specs.Texts.{Blank, Decimal, First, NextNumber, NoneOf, OneNumber, Writes}
 use Rattle.commands.specs.declared.misread.Misread.{Misread}
 use Rattle.commands.specs.declared.misread.NumberFault.{NumberFault}
 use Rattle.commands.specs.declared.misread.NumberFault.TheVariants.{Missing, NotDecimal, TooLarge}
@@ -36,21 +36,17 @@ word_of name.Write = codes "write"
 abbrev pub names : List (List ℕ)
 names = codes "receiver" ∷ (codes "gap" ∷ (codes "showmarks" ∷ (codes "showframe" ∷ (codes "look" ∷ (codes "release" ∷ (codes "state" ∷ (codes "ft12" ∷ (codes "markbuffer" ∷ (codes "framebuffer" ∷ (codes "listen" ∷ (codes "ft2" ∷ (codes "write" ∷ []))))))))))))
 
--- a number, and no word behind it
-abbrev pub OneNumber : List ℕ → ℕ → Type 0
-OneNumber text n = (word rest : List ℕ) × First text word rest × Decimal word n × Blank rest
-
 -- two numbers, and no word behind them
 abbrev pub TwoNumbers : List ℕ → ℕ → ℕ → Type 0
-TwoNumbers text m n = (word rest : List ℕ) × First text word rest × Decimal word m × OneNumber rest n
+TwoNumbers text m n = (rest : List ℕ) × NextNumber text m rest × OneNumber rest n
 
 -- the first is no number; or it is one, and what stands behind it is not one number
 abbrev pub NotTwo : List ℕ → Misread → Type 0
-NotTwo text e = Miscounts text e ⊎ ((m : ℕ) × (word rest : List ℕ) × First text word rest × Decimal word m × Miscounts rest e)
+NotTwo text e = Miscounts text e ⊎ ((m : ℕ) × (rest : List ℕ) × NextNumber text m rest × Miscounts rest e)
 
 -- a kind, and behind it words that write the octets
 abbrev pub KindAndOctets : List ℕ → ℕ → List ℕ → Type 0
-KindAndOctets text k octets = (word rest : List ℕ) × First text word rest × Decimal word k × (k < 256) × Writes rest octets
+KindAndOctets text k octets = (rest : List ℕ) × NextNumber text k rest × (k < 256) × Writes rest octets
 
 -- the order that a name and the text behind it say
 abbrev pub Behind : Name → List ℕ → DeskOrder → Type 0
@@ -63,12 +59,17 @@ Behind name.Write text o = (k : ℕ) × (v : Vec ℕ) × (o ≡ order.Write k v)
 abbrev pub NotKind : List ℕ → NumberFault → Type 0
 NotKind text e = (word : Bor (List ℕ)) × (word.now ≡ text) × (((e ≡ NotDecimal word) × (IsNumeral 10 (without_leading_plus text) → ⊥)) ⊎ ((e ≡ TooLarge word) × ((k : ℕ) → k < 256 → Decimal text k → ⊥)))
 
+-- the text does not begin with a number from 0 to 255
+abbrev pub NoKind : List ℕ → DeskMisread → Type 0
+NoKind text e =
+    ((e ≡ BadKind Missing) × Blank text)
+    ⊎ ((fault : NumberFault) × (word rest : List ℕ) × (e ≡ BadKind fault) × First text word rest × NotKind word fault)
+
 -- no kind, or behind it a word that writes no octet
 abbrev pub NotWritten : List ℕ → DeskMisread → Type 0
 NotWritten text e =
-    ((e ≡ BadKind Missing) × Blank text)
-    ⊎ (((fault : NumberFault) × (word rest : List ℕ) × (e ≡ BadKind fault) × First text word rest × NotKind word fault)
-    ⊎ ((k : ℕ) × (word rest : List ℕ) × (misread : Misread) × (e ≡ Words misread) × First text word rest × Decimal word k × (k < 256) × Spoils rest misread))
+    NoKind text e
+    ⊎ ((k : ℕ) × (rest : List ℕ) × (misread : Misread) × (e ≡ Words misread) × NextNumber text k rest × (k < 256) × Spoils rest misread)
 
 -- why the text behind a name says no order
 abbrev pub Wrong : Name → List ℕ → DeskMisread → Type 0

@@ -1,13 +1,16 @@
 // The desk: a format with its receiver, a mark buffer and a frame buffer.
-ghost use Rattle.std.specs.Prelude.{◌≡◌, replicate, IfOk};
-ghost use Rattle.desk.specs.declared.hearings.Hearing.TheVariants.{None as NoneYet};
-ghost use Rattle.desk.specs.Orders.{Numbering, Obeyed, Writes, Simply};
+ghost use Rattle.std.specs.Prelude.{◌≡◌, replicate, IfOk, None};
+ghost use Rattle.desk.specs.Hearings.{AtHearing};
+ghost use Rattle.desk.specs.Orders.{Numbering, Obeyed, Simply};
 
-use crate::answer::DeskAnswer;
-use crate::hearings::Hearing;
+use crate::answer::{DeskAnswer, Undone};
+use crate::hearings::{Buffers, Call, Hearing};
 use crate::order::{DeskOrder, Numbered, Simple};
+use formats::format::ReadFormat;
+use ft2::format::Ft2;
+use ft12::format::Ft12;
 use lines::line::Line;
-use receiver::receiver::FRAME_OCTETS;
+use receiver::receiver::{FRAME_OCTETS, Receiver};
 use std::alloc::{AllocError, Global};
 
 // So many octets has the mark buffer at first.
@@ -15,9 +18,9 @@ const MARK_OCTETS: usize = 4096;
 
 #[derive(Drop)]
 pub struct Desk {
-    hearing: Hearing,
-    marks: Vec<u8>,
-    frame: Vec<u8>,
+    // none before a format is chosen
+    hearing: Option<Hearing>,
+    buffers: Buffers,
 }
 
 // A buffer of so many octets FF.
@@ -30,193 +33,106 @@ fn buffer(heap: Global, count: usize) -> Result<Vec<u8>, AllocError>
 impl Desk {
     // At first there is no format, and a frame buffer of the fewest octets.
     pub fn new(heap: Global) -> Result<Desk, AllocError>
-        ensures { IfOk result (λ d. (d.hearing ≡ NoneYet) × (d.marks.items ≡ replicate 4096 255) × (d.frame.items ≡ replicate 255 255)) }
+        ensures { IfOk result (λ d. (d.hearing ≡ None) × (d.buffers.marks.items ≡ replicate 4096 255) × (d.buffers.frame.items ≡ replicate 255 255)) }
     {
         let marks = buffer(heap, MARK_OCTETS)?;
         let frame = buffer(heap, FRAME_OCTETS)?;
         Ok(Desk {
-            hearing: Hearing::None,
-            marks,
-            frame,
+            hearing: None,
+            buffers: Buffers { marks, frame },
         })
     }
 
     // What the mark buffer holds.
     pub fn marks(&self) -> &[u8]
-        ensures { result.now ≡ self.now.marks.items }
+        ensures { result.now ≡ self.now.buffers.marks.items }
     {
-        self.marks.as_slice()
+        self.buffers.marks.as_slice()
     }
 
     // What the frame buffer holds.
     pub fn frame(&self) -> &[u8]
-        ensures { result.now ≡ self.now.frame.items }
+        ensures { result.now ≡ self.now.buffers.frame.items }
     {
-        self.frame.as_slice()
+        self.buffers.frame.as_slice()
     }
 
-    // The desk after an order, and the answer.
-    pub fn obey<L: Line>(self, heap: Global, line: &mut L, order: DeskOrder) -> (Desk, DeskAnswer)
-        ensures { Obeyed L.Line.pending order self result.0 line.old line.new result.1 }
+    // Carries out an order; where that is not done nothing is changed.
+    pub fn obey<L: Line>(
+        &mut self,
+        heap: Global,
+        line: &mut L,
+        order: DeskOrder,
+    ) -> Result<DeskAnswer, Undone>
+        ensures { Obeyed L.Line.pending order self.old self.new line.old line.new result }
     {
         match order {
-            DeskOrder::Simple(order) => self.obey_simple(order),
+            DeskOrder::Simple(order) => self.obey_simple(line, order),
             DeskOrder::Numbered(order, number) => self.obey_numbered(heap, line, order, number),
             DeskOrder::Ft2(fixed_length, header_length) => {
-                let Desk {
-                    hearing,
-                    marks,
-                    frame,
-                } = self;
-                let (hearing, answer) = hearing.choose_ft2(fixed_length, header_length);
-                (
-                    Desk {
-                        hearing,
-                        marks,
-                        frame,
-                    },
-                    answer,
-                )
+                let format = Ft2::new(fixed_length, header_length)?;
+                self.hearing = Some(Hearing::Ft2(Receiver::new(format)));
+                Ok(DeskAnswer::Ft2 {
+                    fixed_length,
+                    header_length,
+                    gap: format.gap(),
+                    distance: format.hamming_distance(),
+                })
             }
-            DeskOrder::Write(kind, octets) => self.write(kind, octets.as_slice()),
+            DeskOrder::Write(kind, octets) => self.call(line, Call::Write(kind, octets)),
         }
     }
 
-    fn obey_simple(self, order: Simple) -> (Desk, DeskAnswer)
-        ensures { Simply order self result.0 result.1 }
+    fn obey_simple<L: Line>(&mut self, line: &mut L, order: Simple) -> Result<DeskAnswer, Undone>
+        ensures { Simply L.Line.pending order self.old self.new line.old line.new result }
     {
         match order {
-            Simple::Receiver => {
-                let Desk {
-                    hearing,
-                    marks,
-                    frame,
-                } = self;
-                let (hearing, answer) = hearing.renew();
-                (
-                    Desk {
-                        hearing,
-                        marks,
-                        frame,
-                    },
-                    answer,
-                )
-            }
-            Simple::Gap => self.write_gap(),
-            Simple::ShowMarks => (self, DeskAnswer::Marks),
-            Simple::ShowFrame => (self, DeskAnswer::Frame),
-            Simple::Look => {
-                let answer = self.hearing.look(self.frame());
-                (self, answer)
-            }
-            Simple::Release => {
-                let Desk {
-                    hearing,
-                    marks,
-                    frame,
-                } = self;
-                let (hearing, answer) = hearing.release();
-                (
-                    Desk {
-                        hearing,
-                        marks,
-                        frame,
-                    },
-                    answer,
-                )
-            }
-            Simple::State => {
-                let answer = self.hearing.state();
-                (self, answer)
-            }
+            Simple::Receiver => self.call(line, Call::New),
+            Simple::Gap => self.call(line, Call::Gap),
+            Simple::ShowMarks => Ok(DeskAnswer::Marks),
+            Simple::ShowFrame => Ok(DeskAnswer::Frame),
+            Simple::Look => self.call(line, Call::Look),
+            Simple::Release => self.call(line, Call::Release),
+            Simple::State => self.call(line, Call::State),
         }
     }
 
     fn obey_numbered<L: Line>(
-        self,
+        &mut self,
         heap: Global,
         line: &mut L,
         order: Numbered,
         number: u16,
-    ) -> (Desk, DeskAnswer)
-        ensures { Numbering L.Line.pending order number self result.0 line.old line.new result.1 }
+    ) -> Result<DeskAnswer, Undone>
+        ensures { Numbering L.Line.pending order number self.old self.new line.old line.new result }
     {
         match order {
             Numbered::Ft12 => {
-                let Desk {
-                    hearing,
-                    marks,
-                    frame,
-                } = self;
-                let (hearing, answer) = hearing.choose_ft12(number);
-                (
-                    Desk {
-                        hearing,
-                        marks,
-                        frame,
-                    },
-                    answer,
-                )
+                let format = Ft12::new(number)?;
+                self.hearing = Some(Hearing::Ft12(Receiver::new(format)));
+                Ok(DeskAnswer::Ft12 {
+                    fixed_length: number,
+                    gap: format.gap(),
+                    distance: format.hamming_distance(),
+                })
             }
-            Numbered::MarkBuffer => match buffer(heap, usize::from(number)) {
-                Ok(marks) => (
-                    Desk {
-                        hearing: self.hearing,
-                        marks,
-                        frame: self.frame,
-                    },
-                    DeskAnswer::MarkBuffer(number),
-                ),
-                Err(_) => (self, DeskAnswer::NoMemory),
-            },
-            Numbered::FrameBuffer => match buffer(heap, usize::from(number)) {
-                Ok(frame) => (
-                    Desk {
-                        hearing: self.hearing,
-                        marks: self.marks,
-                        frame,
-                    },
-                    DeskAnswer::FrameBuffer(number),
-                ),
-                Err(_) => (self, DeskAnswer::NoMemory),
-            },
-            Numbered::Listen => self.listen(line, number),
+            Numbered::MarkBuffer => {
+                self.buffers.marks = buffer(heap, usize::from(number))?;
+                Ok(DeskAnswer::MarkBuffer(number))
+            }
+            Numbered::FrameBuffer => {
+                self.buffers.frame = buffer(heap, usize::from(number))?;
+                Ok(DeskAnswer::FrameBuffer(number))
+            }
+            Numbered::Listen => self.call(line, Call::Listen(number)),
         }
     }
 
-    fn write(self, kind: u8, octets: &[u8]) -> (Desk, DeskAnswer)
-        ensures { Writes kind octets.now self result.0 result.1 }
+    // A call at the format that is chosen.
+    fn call<L: Line>(&mut self, line: &mut L, call: Call) -> Result<DeskAnswer, Undone>
+        ensures { AtHearing L.Line.pending call self.old.hearing self.new.hearing line.old line.new self.old.buffers self.new.buffers result }
     {
-        let mut desk = self;
-        let answer = desk.hearing.write(kind, octets, desk.marks.as_mut_slice());
-        (desk, answer)
-    }
-
-    fn write_gap(self) -> (Desk, DeskAnswer)
-        ensures { Simply Simple.Gap self result.0 result.1 }
-    {
-        let mut desk = self;
-        let answer = desk.hearing.write_gap(desk.marks.as_mut_slice());
-        (desk, answer)
-    }
-
-    fn listen<L: Line>(self, line: &mut L, budget: u16) -> (Desk, DeskAnswer)
-        ensures { Numbering L.Line.pending Numbered.Listen budget self result.0 line.old line.new result.1 }
-    {
-        let Desk {
-            hearing,
-            marks,
-            frame,
-        } = self;
-        let mut frame = frame;
-        let (hearing, answer) = hearing.listen(line, frame.as_mut_slice(), budget);
-        (
-            Desk {
-                hearing,
-                marks,
-                frame,
-            },
-            answer,
-        )
+        let hearing = self.hearing.as_mut().ok_or(Undone::NoFormat)?;
+        hearing.carry_out(line, &mut self.buffers, call)
     }
 }

@@ -7,3 +7,4 @@ pub mod hearings;
 pub mod misread;
 pub mod order;
 pub mod reading;
+pub mod report;

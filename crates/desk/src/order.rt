@@ -31,7 +31,7 @@ pub enum DeskOrder {
     Numbered(Numbered, u16),
     // choose FT2 with this fixed length and this header length
     Ft2(u16, u16),
-    // write a frame of the kind with these user octets
+    // write a frame of the kind of this number, which the format may lack, with these user octets
     Write(u8, Vec<u8>),
 }
 

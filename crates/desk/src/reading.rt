@@ -1,16 +1,14 @@
 // How orders are read from a line of text.
 ghost use Rattle.std.specs.Prelude.{◌≡◌, ◌<◌, MatchOption, MatchResult};
 ghost use Rattle.std.specs.Str.Iter.{split_whitespace_rest};
-ghost use Rattle.commands.specs.Readings.{Extra, Miscounts, NotNumber, Spoils};
-ghost use Rattle.commands.specs.Texts.{Blank, Decimal, NoneOf, Writes as WritesOctets};
-ghost use Rattle.desk.specs.Texts.{Behind, NotKind, NotTwo, NotWritten, OneNumber, Reading, TwoNumbers, Wrong, names, word_of};
+ghost use Rattle.commands.specs.Texts.{Decimal, NextNumber, NoneOf};
+ghost use Rattle.desk.specs.Texts.{Behind, NoKind, NotKind, NotTwo, NotWritten, Reading, TwoNumbers, Wrong, names, word_of};
 
 use crate::misread::DeskMisread;
 use crate::order::{DeskOrder, Name, Numbered, Simple};
 use commands::misread::{Misread, NumberFault};
-use commands::octet::octet;
+use commands::words::{end, next_number, number, octets, one_number};
 use std::alloc::Global;
-use std::num::IntErrorKind;
 use std::str::SplitWhitespace;
 
 // The order that a line of text says; none where its first word begins no order of the desk's.
@@ -18,8 +16,7 @@ pub fn read(heap: Global, text: &str) -> Option<Result<DeskOrder, DeskMisread<'_
     ensures { Reading text.now result }
 {
     let mut words = text.split_whitespace();
-    let word = words.next()?;
-    let name = name_of(word)?;
+    let name = name_of(words.next()?)?;
     Some(behind(heap, name, words))
 }
 
@@ -58,10 +55,7 @@ fn behind<'a>(
             end(words)?;
             Ok(DeskOrder::Simple(order))
         }
-        Name::Numbered(order) => {
-            let number = one_number(words)?;
-            Ok(DeskOrder::Numbered(order, number))
-        }
+        Name::Numbered(order) => Ok(DeskOrder::Numbered(order, one_number(words)?)),
         Name::Ft2 => {
             let (fixed_length, header_length) = two_numbers(words)?;
             Ok(DeskOrder::Ft2(fixed_length, header_length))
@@ -70,49 +64,11 @@ fn behind<'a>(
     }
 }
 
-// No word is left.
-fn end<'a>(mut words: SplitWhitespace<'a>) -> Result<(), Misread<'a>>
-    ensures { MatchResult result (λ _. Blank (split_whitespace_rest words.entry)) (λ e. Extra (split_whitespace_rest words.entry) e) }
-{
-    match words.next() {
-        None => Ok(()),
-        Some(extra) => Err(Misread::ExtraWord(extra)),
-    }
-}
-
-// The number that a word writes in decimal digits.
-fn number(word: &str) -> Result<u16, NumberFault<'_>>
-    ensures { MatchResult result (λ n. Decimal word.now n) (λ e. NotNumber word.now e) }
-{
-    match word.parse::<u16>() {
-        Ok(count) => Ok(count),
-        Err(fault) => match fault.kind() {
-            IntErrorKind::PosOverflow => Err(NumberFault::TooLarge(word)),
-            _ => Err(NumberFault::NotDecimal(word)),
-        },
-    }
-}
-
-// The one number, with no word behind it.
-fn one_number<'a>(mut words: SplitWhitespace<'a>) -> Result<u16, Misread<'a>>
-    ensures { MatchResult result (λ n. OneNumber (split_whitespace_rest words.entry) n) (λ e. Miscounts (split_whitespace_rest words.entry) e) }
-{
-    let Some(word) = words.next() else {
-        return Err(Misread::BadNumber(NumberFault::Missing));
-    };
-    let value = number(word)?;
-    end(words)?;
-    Ok(value)
-}
-
 // Two numbers, with no word behind them.
 fn two_numbers<'a>(mut words: SplitWhitespace<'a>) -> Result<(u16, u16), Misread<'a>>
     ensures { MatchResult result (λ p. TwoNumbers (split_whitespace_rest words.entry) p.0 p.1) (λ e. NotTwo (split_whitespace_rest words.entry) e) }
 {
-    let Some(word) = words.next() else {
-        return Err(Misread::BadNumber(NumberFault::Missing));
-    };
-    let first = number(word)?;
+    let first = next_number(&mut words)?;
     let second = one_number(words)?;
     Ok((first, second))
 }
@@ -121,39 +77,21 @@ fn two_numbers<'a>(mut words: SplitWhitespace<'a>) -> Result<(u16, u16), Misread
 fn kind(word: &str) -> Result<u8, NumberFault<'_>>
     ensures { MatchResult result (λ k. Decimal word.now k × (k < 256)) (λ e. NotKind word.now e) }
 {
-    match number(word) {
-        Ok(value) if value < 256 => Ok(value as u8),
-        Ok(_) => Err(NumberFault::TooLarge(word)),
-        Err(fault) => Err(fault),
-    }
+    u8::try_from(number(word)?).map_err(|_| NumberFault::TooLarge(word))
 }
 
-// The octets that the words write, first to last.
-fn octets<'a>(heap: Global, words: SplitWhitespace<'a>) -> Result<Vec<u8>, Misread<'a>>
-    ensures { MatchResult result (λ v. WritesOctets (split_whitespace_rest words.entry) v.items) (λ e. Spoils (split_whitespace_rest words.entry) e) }
+// The kind that the next word writes.
+fn next_kind<'a>(words: &mut SplitWhitespace<'a>) -> Result<u8, DeskMisread<'a>>
+    ensures { MatchResult result (λ k. NextNumber (split_whitespace_rest words.old) k (split_whitespace_rest words.new) × (k < 256)) (λ e. NoKind (split_whitespace_rest words.old) e) }
 {
-    let mut octets = Vec::new(heap);
-    for word in words {
-        let Some(value) = octet(word) else {
-            return Err(Misread::BadOctet(word));
-        };
-        octets.push(value)?;
-    }
-    Ok(octets)
+    let word = words.next().ok_or(NumberFault::Missing);
+    word.and_then(kind).map_err(DeskMisread::BadKind)
 }
 
 // A kind, and the octets behind it.
 fn write<'a>(heap: Global, mut words: SplitWhitespace<'a>) -> Result<DeskOrder, DeskMisread<'a>>
     ensures { MatchResult result (λ o. Behind Name.Write (split_whitespace_rest words.entry) o) (λ e. NotWritten (split_whitespace_rest words.entry) e) }
 {
-    let Some(word) = words.next() else {
-        return Err(DeskMisread::BadKind(NumberFault::Missing));
-    };
-    match kind(word) {
-        Ok(kind) => {
-            let octets = octets(heap, words)?;
-            Ok(DeskOrder::Write(kind, octets))
-        }
-        Err(fault) => Err(DeskMisread::BadKind(fault)),
-    }
+    let kind = next_kind(&mut words)?;
+    Ok(DeskOrder::Write(kind, octets(heap, words)?))
 }

@@ -10,6 +10,10 @@ use Rattle.formats.specs.declared.format.Progress.{Progress}
 use Rattle.formats.specs.declared.format.Progress.TheVariants as progress
 use Rattle.formats.specs.Verdicts.{Cause, Verdict, Open, Fault, open_list, tells, frame_of, fault_of, octet_told, OpenAlong, JudgedAlong, FaultAlong, told_along}
 
+-- a fault here, or open here and a break later
+abbrev pub BreaksBy : Verdict → Type 0 → Type 0
+BreaksBy v X = Fault v ⊎ (Open v × X)
+
 module _ {S : Type 0} (t : Machine S) where
   -- every mark but the last leaves the list open, and at the last it is judged w
   abbrev pub Judged : S → List Mark → Verdict → Type 0

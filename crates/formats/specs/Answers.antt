@@ -1,7 +1,8 @@
 -- What a format's calls answer, and what they leave.
 use Rattle.std.specs.Prelude.{◌≡◌, ℕ, ◌<◌, ◌≤◌, true, false, List, [], ◌∷◌, ◌++◌, map, length, drop, Ok, Err, Result}
 use Rattle.lines.specs.declared.mark.Mark.{Mark}
-use Rattle.lines.specs.declared.mark.Mark.TheVariants.{Zero, One, Bad}
+use Rattle.lines.specs.declared.mark.Mark.TheVariants.{One}
+use Rattle.lines.specs.Records.{mark_octet}
 use Rattle.formats.specs.Laws.{Model, Reads}
 use Rattle.formats.specs.Marks.{Begins, ones}
 use Rattle.formats.specs.Verdicts.{Cause, Verdict, open_list, tells, frame_of, fault_of}
@@ -30,12 +31,6 @@ pub record Added {E : Type 0} (cause : E → Cause) (before after : List Mark �
   pub idle : before [] → m ≡ One → (r ≡ Ok progress.Open) × after []
   -- any other list is judged with the mark added
   pub judged : (ms : List Mark) → before ms → Begins (ms ++ (m ∷ [])) → Tells cause (verdict (ms ++ (m ∷ []))) r × after (list_after (verdict (ms ++ (m ∷ []))) (ms ++ (m ∷ [])))
-
--- the octet of a mark buffer that stands for a mark
-abbrev pub mark_octet : Mark → ℕ
-mark_octet Zero = 0
-mark_octet One = 1
-mark_octet Bad = 2
 
 -- the buffer holds the marks from its first octet, and behind them what it held before
 abbrev pub filled : List Mark → List ℕ → List ℕ

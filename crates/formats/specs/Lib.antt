@@ -4,3 +4,5 @@ pub mod Laws
 pub mod Answers
 pub mod Machine
 pub mod Numbers
+pub mod Texts
+pub mod Putting

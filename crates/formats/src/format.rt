@@ -1,5 +1,5 @@
 // The reading trait and the writing trait.
-ghost use Rattle.std.specs.Prelude.{◌≡◌, List, []};
+ghost use Rattle.std.specs.Prelude.{◌≡◌, ℕ, List, []};
 ghost use Rattle.formats.specs.Answers.{Added, GapWritten, Written};
 ghost use Rattle.formats.specs.Laws.{Laws, Model};
 ghost use Rattle.lines.specs.declared.mark.Mark.{Mark};
@@ -13,6 +13,7 @@ use lines::mark::Mark;
 pub enum Progress {
     Open,
     Octet(u8),
+    // by the number of its kind, the word that `write` takes
     Frame(u8),
 }
 
@@ -20,6 +21,8 @@ pub enum Progress {
 pub trait ReadFormat {
     // The distance: fewer altered marks than this are always noticed.
     const DISTANCE: u8;
+
+    ghost DISTANCE: { ℕ };
 
     type Fault: Fault;
 
@@ -33,7 +36,10 @@ pub trait ReadFormat {
         ensures { result ≡ (model self.now).gap };
 
     fn hamming_distance(&self) -> u8
-        ensures { result ≡ (model self.now).distance };
+        ensures { result ≡ (model self.now).distance }
+    {
+        Self::DISTANCE
+    }
 
     // Back to the empty list.
     fn restart(&mut self)
@@ -47,15 +53,26 @@ pub trait ReadFormat {
 
     // what whoever supplies a format shows
     ghost lawful: { (s : Self) → Laws (model s) };
+
+    ghost distance_named: { (s : Self) → (model s).distance ≡ DISTANCE };
 }
 
 // A format that also writes.
 pub trait WriteFormat: ReadFormat {
     // Puts a frame's marks into the mark buffer, one octet 00 or 01 a mark, and answers their count.
+    // The kind is kept a number: a caller above any format may name one that the format lacks, and is refused then.
     fn write(&self, kind: u8, octets: &[u8], marks: &mut [u8]) -> Result<usize, WriteRefusal>
         ensures { Written (Self.ReadFormat.model self.now) kind octets.now marks.old result marks.new };
 
     // Puts the marks of a quiet gap there likewise.
     fn write_gap(&self, marks: &mut [u8]) -> Result<usize, WriteRefusal>
-        ensures { GapWritten (Self.ReadFormat.model self.now) marks.old result marks.new };
+        ensures { GapWritten (Self.ReadFormat.model self.now) marks.old result marks.new }
+    {
+        let gap = usize::from(self.gap());
+        if marks.len() < gap {
+            return Err(WriteRefusal::ShortBuffer);
+        }
+        marks[..gap].fill(1);
+        Ok(gap)
+    }
 }

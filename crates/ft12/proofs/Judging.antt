@@ -1,41 +1,42 @@
--- Answers and what is left after a mark, by its verdict.
-use Rattle.std.proofs.Common.{◌≡◌, Ok, Err, Result, sym, refl, ap, ◌∙◌, subst}
+-- What a step within a character makes of the list: the answer, and what is left.
+use Rattle.std.proofs.Common.{◌≡◌, ℕ, Ok, Err, Result, sym, refl, ap, ◌∙◌, subst}
+use Rattle.lines.specs.declared.mark.Mark.{Mark}
 use Rattle.formats.proofs.Machines.{state_after}
 use Rattle.formats.specs.Answers.{Tells}
 use Rattle.formats.specs.Verdicts.{Verdict, open_list, tells, frame_of, fault_of}
 use Rattle.formats.specs.declared.format.Progress.{Progress}
 use Rattle.formats.specs.declared.format.Progress.TheVariants as progress
-use Rattle.ft12_laws.specs.Faults.{faulty, ft12_cause}
-use Rattle.ft12_laws.specs.Machine.{beginning}
+use Rattle.ft12_laws.specs.Faults.{ft12_cause}
+use Rattle.ft12_laws.specs.Machine.{after_at, beginning, says_at}
+use Rattle.ft12_laws.specs.Reading.{judge, next}
+use Rattle.ft12_laws.specs.declared.fault.CharacterFault.{CharacterFault}
 use Rattle.ft12_laws.specs.declared.fault.Ft12Fault.{Ft12Fault}
+use Rattle.ft12_laws.specs.declared.fault.Ft12Fault.TheVariants.{Character}
+use Rattle.ft12_laws.specs.declared.reading.Part.{Part}
 use Rattle.ft12_laws.specs.declared.reading.Place.TheVariants.{First}
 use Rattle.ft12_laws.specs.declared.reading.Reading.{Reading}
-use Rattle.ft12.specs.Steps.{left_after}
+use Rattle.ft12.specs.Steps.{Stepped, left_after}
+use Rattle.ft12.specs.declared.characters.Step.TheVariants.{Within, Whole}
 
-module _ (v : Verdict) where
-  pub open_told : v ≡ open_list → Tells ft12_cause v (Ok progress.Open)
-  open_told e = subst (λ w. Tells ft12_cause w (Ok progress.Open)) (sym e) refl
+-- the answer to a mark, and the reading that it leaves
+module _ (fixed : ℕ) (s : Reading) (m : Mark) where
+  abbrev pub Answered : Result Progress Ft12Fault → Reading → Type 0
+  Answered r left = Tells ft12_cause (says_at s.place s.part m) r × (left ≡ left_after (says_at s.place s.part m) (after_at fixed s.place s.part m))
 
-  pub open_left : (after : Reading) → v ≡ open_list → after ≡ left_after v after
-  open_left after e = sym (ap (λ w. left_after w after) e)
+  pub within : (q : Part) → Stepped s.place fixed s.part m (Ok (Within q)) → Answered (Ok progress.Open) (record { place = s.place; part = q })
+  within q h = (subst (λ v. Tells ft12_cause v (Ok progress.Open)) (sym h.0) refl, sym (ap (λ v. left_after v (after_at fixed s.place s.part m)) h.0 ∙ h.1))
 
-  pub fault_told : (f : Ft12Fault) (r : Result Progress Ft12Fault) → v ≡ faulty f → r ≡ Err f → Tells ft12_cause v r
-  fault_told f r e is = subst (λ w. Tells ft12_cause w r) (sym e) (f, is, refl)
+  pub whole : (o : ℕ) (r : Result Progress Ft12Fault) (left : Reading) → Stepped s.place fixed s.part m (Ok (Whole o)) → Tells ft12_cause (judge s.place o) r → left ≡ left_after (judge s.place o) (beginning (next fixed s.place o)) → Answered r left
+  whole o r left h told is = (subst (λ v. Tells ft12_cause v r) (sym h.0) told, is ∙ sym (ap (λ v. left_after v (after_at fixed s.place s.part m)) h.0 ∙ ap (left_after (judge s.place o)) h.1))
 
-  pub fault_left : (f : Ft12Fault) (after : Reading) → v ≡ faulty f → beginning First ≡ left_after v after
-  fault_left f after e = sym (ap (λ w. left_after w after) e)
-
-  pub same_told : (w : Verdict) (r : Result Progress Ft12Fault) → v ≡ w → Tells ft12_cause w r → Tells ft12_cause v r
-  same_told w r e t = subst (λ u. Tells ft12_cause u r) (sym e) t
-
-  pub same_left : (w : Verdict) (s t : Reading) → v ≡ w → s ≡ t → left_after w t ≡ left_after v s
-  same_left w s t e f = sym (ap (λ u. left_after u s) e ∙ ap (left_after w) f)
-
-left_is : (v : Verdict) (after : Reading) → left_after v after ≡ state_after v after (beginning First)
-left_is open_list after = refl
-left_is (tells octet) after = refl
-left_is (frame_of kind) after = refl
-left_is (fault_of why) after = refl
+  pub broken : (e : CharacterFault) (r : Result Progress Ft12Fault) (left : Reading) → Stepped s.place fixed s.part m (Err e) → r ≡ Err (Character e) → left ≡ beginning First → Answered r left
+  broken e r left h told is = (subst (λ v. Tells ft12_cause v r) (sym h) (Character e, told, refl), is ∙ sym (ap (λ v. left_after v (after_at fixed s.place s.part m)) h))
 
 pub left_by : (v : Verdict) (s after : Reading) → s ≡ left_after v after → s ≡ state_after v after (beginning First)
-left_by v s after e = e ∙ left_is v after
+left_by v s after e = e ∙ left_is v
+  where
+    left_is : (v : Verdict) → left_after v after ≡ state_after v after (beginning First)
+    left_is open_list = refl
+    left_is (tells octet) = refl
+    left_is (frame_of kind) = refl
+    left_is (fault_of why) = refl

@@ -1,2 +1,2 @@
-mod Writing
-mod Judging
+pub mod Writing
+pub mod Judging

@@ -1,5 +1,5 @@
 // FT1.2 behind the reading and the writing trait.
-ghost use Rattle.std.specs.Prelude.{◌≡◌, ◌≤◌, [], Decides, MatchResult};
+ghost use Rattle.std.specs.Prelude.{◌≡◌, ◌≤◌, [], Decides, MatchResult, refl};
 ghost use Rattle.lines.specs.declared.mark.Mark.TheVariants.{One};
 ghost use Rattle.formats.specs.Answers.{Tells};
 ghost use Rattle.formats.specs.Machine.{StandsFor};
@@ -13,43 +13,31 @@ ghost use Rattle.std.proofs.Common.{arith};
 ghost use Rattle.ft12_laws.proofs.Laws.{ft12_laws};
 
 use crate::characters::{Step, take_mark};
-use crate::frames::{count_suits, kind_of, octet_count, put_frame};
+use crate::frames::Frame;
 use crate::places::{judge, next};
 use crate::settings::Settings;
 use formats::format::{Progress, ReadFormat, WriteFormat};
 use formats::refusal::{SettingsRefusal, WriteRefusal};
 use ft12_laws::fault::Ft12Fault;
+use ft12_laws::kind::Kind;
 use ft12_laws::reading::{Part, Place, Reading};
 use lines::mark::Mark;
+use std::mem;
 
 // So many marks of 1 are a quiet gap.
 const GAP: u16 = 33;
+
+// Before the first mark of a frame.
+const BEGINNING: Reading = Reading {
+    place: Place::First,
+    part: Part::Start,
+};
 
 // FT1.2 at its settings, and how far the list of marks has been read.
 #[derive(Clone, Copy)]
 pub struct Ft12 {
     settings: Settings,
     reading: Reading,
-}
-
-// At the beginning of a frame.
-fn beginning() -> Reading
-    ensures { result ≡ machine.beginning First }
-{
-    Reading {
-        place: Place::First,
-        part: Part::Start,
-    }
-}
-
-// Whether the mark is a 1 before a frame.
-fn idle(reading: Reading, mark: Mark) -> bool
-    ensures { Decides result ((reading ≡ machine.beginning First) × (mark ≡ One)) }
-{
-    match (reading.place, reading.part, mark) {
-        (Place::First, Part::Start, Mark::One) => true,
-        _ => false,
-    }
 }
 
 impl Ft12 {
@@ -60,7 +48,7 @@ impl Ft12 {
         let settings = Settings::new(fixed_length)?;
         Ok(Ft12 {
             settings,
-            reading: beginning(),
+            reading: BEGINNING,
         })
     }
 
@@ -72,14 +60,11 @@ impl Ft12 {
         ensures left { self.new.reading ≡ left_after (spec.judge place octet) (machine.beginning (spec.next self.old.settings.fixed_length place octet)) }
     {
         let progress = judge(place, octet)?;
-        match progress {
-            Progress::Open | Progress::Octet(_) => {
-                self.reading = Reading {
-                    place: next(self.settings.fixed_length(), place, octet),
-                    part: Part::Start,
-                };
-            }
-            Progress::Frame(_) => {}
+        if !matches!(progress, Progress::Frame(_)) {
+            self.reading = Reading {
+                place: next(self.settings.fixed_length(), place, octet),
+                part: Part::Start,
+            };
         }
         Ok(progress)
     }
@@ -90,12 +75,10 @@ impl Ft12 {
         ensures judged { Tells ft12_cause (machine.says_at self.old.reading.place self.old.reading.part mark) result }
         ensures left { self.new.reading ≡ left_after (machine.says_at self.old.reading.place self.old.reading.part mark) (machine.after_at self.old.settings.fixed_length self.old.reading.place self.old.reading.part mark) }
     {
-        let Reading { place, part } = self.reading;
-        let empty = beginning();
-        self.reading = empty;
+        let Reading { place, part } = mem::replace(&mut self.reading, BEGINNING);
         match take_mark(part, mark)? {
-            Step::Within(later) => {
-                self.reading = Reading { place, part: later };
+            Step::Within(part) => {
+                self.reading = Reading { place, part };
                 Ok(Progress::Open)
             }
             Step::Whole(octet) => self.judge_character(place, octet),
@@ -106,6 +89,8 @@ impl Ft12 {
 impl ReadFormat for Ft12 {
     const DISTANCE: u8 = 4;
 
+    ghost DISTANCE = { 4 };
+
     type Fault = Ft12Fault;
 
     ghost model = { λ s. spec.ft12_model s.settings.fixed_length };
@@ -114,20 +99,18 @@ impl ReadFormat for Ft12 {
 
     ghost lawful = { λ s. ft12_laws s.settings.fixed_length (omega (arith, s.settings.limits)) };
 
+    ghost distance_named = { λ _. refl };
+
     fn gap(&self) -> u16 {
         GAP
     }
 
-    fn hamming_distance(&self) -> u8 {
-        Self::DISTANCE
-    }
-
     fn restart(&mut self) {
-        self.reading = beginning();
+        self.reading = BEGINNING;
     }
 
     fn add(&mut self, mark: Mark) -> Result<Progress, Ft12Fault> {
-        if idle(self.reading, mark) {
+        if mark == Mark::One && self.reading == BEGINNING {
             return Ok(Progress::Open);
         }
         self.judge_mark(mark)
@@ -136,28 +119,7 @@ impl ReadFormat for Ft12 {
 
 impl WriteFormat for Ft12 {
     fn write(&self, kind: u8, octets: &[u8], marks: &mut [u8]) -> Result<usize, WriteRefusal> {
-        let Some(known) = kind_of(kind) else {
-            return Err(WriteRefusal::NoSuchKind);
-        };
-        if !count_suits(self.settings.fixed_length(), known, octets.len()) {
-            return Err(WriteRefusal::WrongCount);
-        }
-        let count = 11 * octet_count(known, octets);
-        if marks.len() < count {
-            return Err(WriteRefusal::ShortBuffer);
-        }
-        put_frame(known, octets, marks);
-        Ok(count)
-    }
-
-    fn write_gap(&self, marks: &mut [u8]) -> Result<usize, WriteRefusal> {
-        let gap = GAP as usize;
-        if marks.len() < gap {
-            return Err(WriteRefusal::ShortBuffer);
-        }
-        for index in 0..gap {
-            marks[index] = 1;
-        }
-        Ok(gap)
+        let frame = Frame::new(self.settings.fixed_length(), Kind::try_from(kind)?, octets)?;
+        frame.put(marks)
     }
 }

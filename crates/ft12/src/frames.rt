@@ -1,132 +1,110 @@
-// Writing a frame, octet by octet.
-ghost use Rattle.std.specs.Prelude.{◌≡◌, ◌+◌, ◌*◌, ◌<◌, ◌≤◌, true, map, length, slice_index};
-ghost use Rattle.std.proofs.Math.Seq.{paste};
+// Writing a frame: its characters, one after the other.
+ghost use Rattle.std.specs.Prelude.{◌≡◌, ◌+◌, ◌*◌, ◌<◌, ◌≤◌, true, false, length, map, MatchResult};
 ghost use Rattle.lines.specs.Characters.{character};
-ghost use Rattle.formats.specs.Answers.{filled, mark_octet};
-ghost use Rattle.ft12_laws.specs.Frames as frames;
+ghost use Rattle.lines.specs.Records.{mark_octet};
+ghost use Rattle.formats.specs.Putting.{Put};
+ghost use Rattle.formats.specs.declared.refusal.WriteRefusal.TheVariants.{ShortBuffer, WrongCount};
+ghost use Rattle.ft12_laws.specs.Frames.{characters, closed, count_suits, frame_marks, sum_of};
 
+use formats::refusal::WriteRefusal;
 use ft12_laws::kind::Kind;
-use lines::character::character_mark;
-use lines::mark::Mark;
+use lines::character::character;
 
-// The kind of a number.
-pub fn kind_of(number: u8) -> Option<Kind>
-    ensures { result ≡ frames.kind_of number }
+// Puts the eleven marks of an octet's character, and answers where they end.
+fn put_character(marks: &mut [u8], at: usize, octet: u8) -> usize
+    requires { at + 11 ≤ length marks.old }
+    ensures { Put at (character octet) marks.old result marks.new }
 {
-    match number {
-        1 => Some(Kind::Fixed),
-        2 => Some(Kind::Variable),
-        3 => Some(Kind::SingleE5),
-        4 => Some(Kind::SingleA2),
-        _ => None,
-    }
+    let end = at + 11;
+    marks[at..end].copy_from_slice(&character(octet).map(u8::from));
+    end
 }
 
-// Whether so many user octets suit the kind.
-pub fn count_suits(fixed_length: u8, kind: Kind, count: usize) -> bool
-    ensures { result ≡ frames.count_suits fixed_length kind count }
+// Puts the characters of octets, one after the other.
+fn put_characters(marks: &mut [u8], at: usize, octets: &[u8]) -> usize
+    requires { at + 11 * length octets.now ≤ length marks.old }
+    ensures { Put at (characters octets.now) marks.old result marks.new }
 {
-    match kind {
-        Kind::Fixed => count == fixed_length as usize,
-        Kind::Variable => count < 256,
-        Kind::SingleE5 => count == 0,
-        Kind::SingleA2 => count == 0,
+    let mut next = at;
+    for octet in octets {
+        next = put_character(marks, next, *octet);
     }
+    next
 }
 
 // The sum of all user octets modulo 256.
 fn sum(octets: &[u8]) -> u8
-    ensures { result ≡ frames.sum_of octets.now }
+    ensures { result ≡ sum_of octets.now }
 {
-    let mut sum: u8 = 0;
-    for octet in octets {
-        sum = sum.wrapping_add(*octet);
-    }
-    sum
+    octets
+        .iter()
+        .fold(0, |sum: u8, octet| sum.wrapping_add(*octet))
 }
 
-// How many octets the frame has.
-pub fn octet_count(kind: Kind, octets: &[u8]) -> usize
-    requires { length octets.now < 256 }
-    ensures { result ≡ length (frames.frame_octets kind octets.now) }
-{
-    match kind {
-        Kind::Fixed => octets.len() + 3,
-        Kind::Variable => octets.len() + 6,
-        Kind::SingleE5 => 1,
-        Kind::SingleA2 => 1,
-    }
+// A kind with user octets whose count suits it.
+#[derive(Clone, Copy)]
+pub struct Frame<'a> {
+    kind: Kind,
+    octets: &'a [u8],
+    ghost few: { length octets.now < 256 },
 }
 
-// The octet at an index of the user octets with their sum and the end character.
-fn closed_octet(octets: &[u8], sum: u8, index: usize) -> u8
-    requires { (sum ≡ frames.sum_of octets.now) × (index < length octets.now + 2) }
-    ensures { result ≡ slice_index (frames.closed octets.now) index }
-{
-    if index < octets.len() {
-        octets[index]
-    } else if index == octets.len() {
-        sum
-    } else {
-        0x16
+impl<'a> Frame<'a> {
+    // A count of user octets that does not suit the kind is refused.
+    pub fn new(fixed_length: u8, kind: Kind, octets: &'a [u8]) -> Result<Self, WriteRefusal>
+        ensures { MatchResult result (λ f. (f.kind ≡ kind) × (f.octets.now ≡ octets.now) × (count_suits fixed_length kind (length octets.now) ≡ true)) (λ e. (e ≡ WrongCount) × (count_suits fixed_length kind (length octets.now) ≡ false)) }
+    {
+        let suits = match kind {
+            Kind::Fixed => octets.len() == usize::from(fixed_length),
+            Kind::Variable => octets.len() < 256,
+            Kind::SingleE5 | Kind::SingleA2 => octets.is_empty(),
+        };
+        if !suits {
+            return Err(WriteRefusal::WrongCount);
+        }
+        Ok(Frame { kind, octets })
     }
-}
 
-// The octet at an index of the frame.
-fn frame_octet(kind: Kind, octets: &[u8], sum: u8, index: usize) -> u8
-    requires { (sum ≡ frames.sum_of octets.now) × ((length octets.now < 256) × (index < length (frames.frame_octets kind octets.now))) }
-    ensures { result ≡ slice_index (frames.frame_octets kind octets.now) index }
-{
-    match kind {
-        Kind::Fixed => {
-            if index == 0 {
-                return 0x10;
+    // How many marks the frame has.
+    fn mark_count(&self) -> usize
+        ensures { result ≡ length (frame_marks (Some self.now.kind) self.now.octets.now) }
+    {
+        match self.kind {
+            Kind::Fixed => 11 * (self.octets.len() + 3),
+            Kind::Variable => 11 * (self.octets.len() + 6),
+            Kind::SingleE5 | Kind::SingleA2 => 11,
+        }
+    }
+
+    // Puts the user octets with their sum and the end character.
+    fn put_closed(&self, marks: &mut [u8], at: usize) -> usize
+        requires { at + 11 * (length self.now.octets.now + 2) ≤ length marks.old }
+        ensures { Put at (characters (closed self.now.octets.now)) marks.old result marks.new }
+    {
+        let next = put_characters(marks, at, self.octets);
+        put_characters(marks, next, &[sum(self.octets), 0x16])
+    }
+
+    // Puts the marks from the first octet of the mark buffer on, and answers their count. A buffer without room for them
+    // is refused.
+    pub fn put(&self, marks: &mut [u8]) -> Result<usize, WriteRefusal>
+        ensures { MatchResult result (λ n. (n ≤ length marks.old) × Put 0 (frame_marks (Some self.now.kind) self.now.octets.now) marks.old n marks.new) (λ e. (e ≡ ShortBuffer) × (marks.new ≡ marks.old) × (length marks.old < length (frame_marks (Some self.now.kind) self.now.octets.now))) }
+    {
+        if marks.len() < self.mark_count() {
+            return Err(WriteRefusal::ShortBuffer);
+        }
+        match self.kind {
+            Kind::Fixed => {
+                let next = put_characters(marks, 0, &[0x10]);
+                Ok(self.put_closed(marks, next))
             }
-            closed_octet(octets, sum, index - 1)
+            Kind::Variable => {
+                let length = self.octets.len() as u8;
+                let next = put_characters(marks, 0, &[0x68, length, length, 0x68]);
+                Ok(self.put_closed(marks, next))
+            }
+            Kind::SingleE5 => Ok(put_characters(marks, 0, &[0xE5])),
+            Kind::SingleA2 => Ok(put_characters(marks, 0, &[0xA2])),
         }
-        Kind::Variable => match index {
-            0 => 0x68,
-            1 => octets.len() as u8,
-            2 => octets.len() as u8,
-            3 => 0x68,
-            _ => closed_octet(octets, sum, index - 4),
-        },
-        Kind::SingleE5 => 0xE5,
-        Kind::SingleA2 => 0xA2,
-    }
-}
-
-// The octet that stands for a mark in a mark buffer.
-fn octet_of(mark: Mark) -> u8
-    ensures { result ≡ mark_octet mark }
-{
-    match mark {
-        Mark::Zero => 0,
-        Mark::One => 1,
-        Mark::Bad => 2,
-    }
-}
-
-// Puts the eleven marks of an octet's character into the mark buffer.
-fn put_character(marks: &mut [u8], at: usize, octet: u8)
-    requires { at + 11 ≤ length marks.old }
-    ensures { marks.new ≡ paste marks.old at (map mark_octet (character octet)) 11 }
-{
-    for place in 0..11 {
-        if let Some(mark) = character_mark(octet, place) {
-            marks[at + place as usize] = octet_of(mark);
-        }
-    }
-}
-
-// Puts the marks of a frame into the mark buffer from its first octet.
-pub fn put_frame(kind: Kind, octets: &[u8], marks: &mut [u8])
-    requires { (length octets.now < 256) × (11 * length (frames.frame_octets kind octets.now) ≤ length marks.old) }
-    ensures { marks.new ≡ filled (frames.characters (frames.frame_octets kind octets.now)) marks.old }
-{
-    let sum = sum(octets);
-    let count = octet_count(kind, octets);
-    for index in 0..count {
-        put_character(marks, 11 * index, frame_octet(kind, octets, sum, index));
     }
 }

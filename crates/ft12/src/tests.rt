@@ -2,17 +2,16 @@
 use crate::format::Ft12;
 use formats::fault::Fault;
 use formats::format::{Progress, ReadFormat, WriteFormat};
-use lines::mark_record::mark_of;
+use lines::mark::Mark;
 use std::test::Fail;
 
-// The marks of a buffer read by a new format: the last verdict, and the number of the fault if there is one.
+// The marks of a buffer read by a format: the last verdict, or the number of the fault.
 fn read(format: &mut Ft12, marks: &[u8]) -> Result<Progress, u8> {
     let mut last = Progress::Open;
     for octet in marks {
-        match format.add(mark_of(*octet)) {
-            Ok(progress) => last = progress,
-            Err(fault) => return Err(fault.number()),
-        }
+        last = format
+            .add(Mark::from(*octet))
+            .map_err(|fault| fault.number())?;
     }
     Ok(last)
 }

@@ -1,8 +1,11 @@
 -- Eight data marks and their octet.
-use Rattle.std.proofs.Common.{◌≡◌, ℕ, zero, suc, ◌+◌, ◌*◌, ◌<◌, ◌≤◌, Bool, true, false, eqb, ltb, leb, List, [], ◌∷◌, map, length, refl, ap, ◌∙◌, arith}
+use Rattle.std.proofs.Common.{◌≡◌, ℕ, zero, suc, ◌+◌, ◌*◌, ◌<◌, ◌≤◌, Bool, true, false, eqb, ltb, leb, List, [], ◌∷◌, map, length, sym, refl, ap, arith}
 use Rattle.std.proofs.lemmas.Bool.{eqb-true, ltb-true, leb-true}
-use Rattle.lines.proofs.Octets.{every, every_below, both, both_left, both_right}
-use Rattle.lines.specs.Characters.{character, data_marks, mark_if, odd_ones}
+use Rattle.std.proofs.lemmas.Slice.Eq.{slice_eq-Decides}
+use Rattle.std.specs.Bool.{Decides}
+use Rattle.std.specs.Cmp.Lexicographic.{pointwise}
+use Rattle.lines.proofs.Octets.{every, every_below, both, both_left, both_right, same}
+use Rattle.lines.specs.Characters.{bit, character, data_marks, mark_if, odd_ones}
 use Rattle.lines.specs.declared.mark.Mark.{Mark}
 use Rattle.lines.specs.declared.mark.Mark.TheVariants.{Zero, One, Bad}
 use Rattle.formats.specs.Marks.{changes, ones}
@@ -26,42 +29,14 @@ all_means (suc n) p e [] l = absurd (omega arith)
 all_means (suc n) p e (true ∷ bs) l = all_means n (λ cs. p (true ∷ cs)) (both_left (all_bits n (λ cs. p (true ∷ cs))) (all_bits n (λ cs. p (false ∷ cs))) e) bs (omega arith)
 all_means (suc n) p e (false ∷ bs) l = all_means n (λ cs. p (false ∷ cs)) (both_right (all_bits n (λ cs. p (true ∷ cs))) (all_bits n (λ cs. p (false ∷ cs))) e) bs (omega arith)
 
-abbrev mark_same : Mark → Mark → Bool
-mark_same Zero Zero = true
-mark_same Zero One = false
-mark_same Zero Bad = false
-mark_same One Zero = false
-mark_same One One = true
-mark_same One Bad = false
-mark_same Bad Zero = false
-mark_same Bad One = false
-mark_same Bad Bad = true
+same_decides : (a b : Bool) → Decides (same a b) (a ≡ b)
+same_decides true b = (sym, sym)
+same_decides false true = (λ e. e, λ e. e)
+same_decides false false = (λ _. refl, λ _. refl)
 
-mark_same_means : (m n : Mark) → mark_same m n ≡ true → m ≡ n
-mark_same_means Zero Zero e = refl
-mark_same_means Zero One e = let z : ◌≡◌ {A = ℕ} 0 1 = cc in absurd (omega arith)
-mark_same_means Zero Bad e = let z : ◌≡◌ {A = ℕ} 0 1 = cc in absurd (omega arith)
-mark_same_means One Zero e = let z : ◌≡◌ {A = ℕ} 0 1 = cc in absurd (omega arith)
-mark_same_means One One e = refl
-mark_same_means One Bad e = let z : ◌≡◌ {A = ℕ} 0 1 = cc in absurd (omega arith)
-mark_same_means Bad Zero e = let z : ◌≡◌ {A = ℕ} 0 1 = cc in absurd (omega arith)
-mark_same_means Bad One e = let z : ◌≡◌ {A = ℕ} 0 1 = cc in absurd (omega arith)
-mark_same_means Bad Bad e = refl
-
-abbrev marks_same : List Mark → List Mark → Bool
-marks_same [] [] = true
-marks_same [] (n ∷ ns) = false
-marks_same (m ∷ ms) [] = false
-marks_same (m ∷ ms) (n ∷ ns) = both (mark_same m n) (marks_same ms ns)
-
-marks_same_means : (ms ns : List Mark) → marks_same ms ns ≡ true → ms ≡ ns
-marks_same_means [] [] e = refl
-marks_same_means [] (n ∷ ns) e = let z : ◌≡◌ {A = ℕ} 0 1 = cc in absurd (omega arith)
-marks_same_means (m ∷ ms) [] e = let z : ◌≡◌ {A = ℕ} 0 1 = cc in absurd (omega arith)
-marks_same_means (m ∷ ms) (n ∷ ns) e =
-    let here = mark_same_means m n (both_left (mark_same m n) (marks_same ms ns) e) in
-    let rest = marks_same_means ms ns (both_right (mark_same m n) (marks_same ms ns) e) in
-    ap (λ x. x ∷ ms) here ∙ ap (λ xs. n ∷ xs) rest
+-- the bits of an octet, lowest first
+abbrev bits : ℕ → List Bool
+bits o = bit o 0 ∷ (bit o 1 ∷ (bit o 2 ∷ (bit o 3 ∷ (bit o 4 ∷ (bit o 5 ∷ (bit o 6 ∷ (bit o 7 ∷ [])))))))
 
 -- the octet of eight bits
 abbrev octet_by : List Bool → ℕ
@@ -71,7 +46,7 @@ octet_by (b ∷ bs) = value (mark_if b) + 2 * octet_by bs
 bits_test : List Bool → Bool
 bits_test bs =
     let o = moved 0 (map mark_if bs) in
-    both (ltb o 256) (both (eqb o (octet_by bs)) (marks_same (data_marks o) (map mark_if bs)))
+    both (ltb o 256) (both (eqb o (octet_by bs)) (pointwise same (bits o) bs))
 
 bits_tests : all_bits 8 bits_test ≡ true
 unfolding bits_test
@@ -92,7 +67,7 @@ module _ (bs : List Bool) (eight : length bs ≡ 8) where
 
   pub moved_marks : data_marks (moved 0 (map mark_if bs)) ≡ map mark_if bs
   unfolding bits_test
-  moved_marks = marks_same_means _ _ (both_right (eqb (moved 0 (map mark_if bs)) (octet_by bs)) _ (both_right (ltb (moved 0 (map mark_if bs)) 256) _ tested))
+  moved_marks = ap (map mark_if) ((slice_eq-Decides same_decides (bits (moved 0 (map mark_if bs))) bs _ refl).0 (both_right (eqb (moved 0 (map mark_if bs)) (octet_by bs)) _ (both_right (ltb (moved 0 (map mark_if bs)) 256) _ tested)))
 
 -- a bad mark counts as no one
 is_one : Mark → Bool

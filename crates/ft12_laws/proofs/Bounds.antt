@@ -180,13 +180,7 @@ module _ (fixed : ℕ) (small : fixed < 256) where
       let less = step_less s.place s.part m h a.0 in
       let rest = lasts (after_at fixed s.place s.part m) ms (sound_after fixed s.place s.part m h) a.1 in
       let sum = length-append (octet_told (says_at s.place s.part m)) (told (ft12_machine fixed) (after_at fixed s.place s.part m) ms) in
-      (by_one _ _ _ rest.0 less.0, by_told _ _ _ _ _ sum rest.1 less.1)
-    where
-      by_one : (a b c : ℕ) → a ≤ b → suc b ≤ c → suc a ≤ c
-      by_one a b c h k = omega arith
-
-      by_told : (n a b c d : ℕ) → n ≡ a + b → b ≤ c → a + c ≤ d → n ≤ d
-      by_told n a b c d e h k = omega arith
+      (omega (arith, rest.0, less.0), omega (arith, sum, rest.1, less.1))
 
   pub few_marks : (ms : List Mark) → Opened (ft12_machine fixed) (beginning place.First) ms → length ms < 65535
   unfolding all_left

@@ -1,44 +1,10 @@
--- In how many marks lists differ.
-use Rattle.std.proofs.Common.{◌≡◌, ℕ, ◌+◌, ◌<◌, ◌≤◌, Bool, true, false, not, List, [], ◌∷◌, ◌++◌, map, length, take, drop, sym, refl, ap, ◌∙◌, inl, inr, arith}
-use Rattle.std.proofs.lemmas.Bool.{cases_eq, both_ways}
+-- In how many marks characters differ.
+use Rattle.std.proofs.Common.{◌≡◌, ℕ, ◌<◌, ◌≤◌, Bool, true, false, not, List, [], ◌∷◌, map, length, take, drop, sym, refl, ap, ◌∙◌, arith}
+use Rattle.std.proofs.lemmas.Bool.{both_ways}
 use Rattle.lines.specs.Characters.{bit, character, data_marks, mark_if, odd_ones}
-use Rattle.lines.specs.declared.mark.Mark.{Mark}
-use Rattle.lines.specs.declared.mark.Mark.TheVariants.{Zero, One, Bad}
-use Rattle.formats.specs.Marks.{change, changes}
+use Rattle.formats.specs.Marks.{changes}
+use Rattle.formats.proofs.Changes.{none_changed}
 use Rattle.ft12_laws.proofs.Bits.{moved, moves_in, odd_character}
-
-pub changes_join : (xs ys us vs : List Mark) → length us ≡ length xs → changes (xs ++ ys) (us ++ vs) ≡ changes xs us + changes ys vs
-changes_join [] ys [] vs l = omega arith
-changes_join [] ys (u ∷ us) vs l = absurd (omega arith)
-changes_join (x ∷ xs) ys [] vs l = absurd (omega arith)
-changes_join (x ∷ xs) ys (u ∷ us) vs l = let rest = changes_join xs ys us vs (omega arith) in omega arith
-
-pub change_self : (m : Mark) → change m m ≡ 0
-change_self Zero = refl
-change_self One = refl
-change_self Bad = refl
-
-pub changes_self : (ms : List Mark) → changes ms ms ≡ 0
-changes_self [] = refl
-changes_self (m ∷ ms) = let here = change_self m in let rest = changes_self ms in omega arith
-
-change_none : (m n : Mark) → change m n ≡ 0 → m ≡ n
-change_none Zero Zero e = refl
-change_none Zero One e = absurd (omega arith)
-change_none Zero Bad e = absurd (omega arith)
-change_none One Zero e = absurd (omega arith)
-change_none One One e = refl
-change_none One Bad e = absurd (omega arith)
-change_none Bad Zero e = absurd (omega arith)
-change_none Bad One e = absurd (omega arith)
-change_none Bad Bad e = refl
-
-pub none_changed : (ms ns : List Mark) → length ns ≡ length ms → changes ms ns ≡ 0 → ms ≡ ns
-none_changed [] [] l e = refl
-none_changed [] (n ∷ ns) l e = absurd (omega arith)
-none_changed (m ∷ ms) [] l e = absurd (omega arith)
-none_changed (m ∷ ms) (n ∷ ns) l e =
-    ap (λ x. x ∷ ms) (change_none m n (omega arith)) ∙ ap (λ xs. n ∷ xs) (none_changed ms ns (omega arith) (omega arith))
 
 not_not : (b : Bool) → b ≡ not (not b)
 not_not true = refl
@@ -70,11 +36,4 @@ module _ (o x : ℕ) (fits : o < 256) (fits_too : x < 256) where
       sym (moves_in o fits) ∙ ap (λ ms. moved 0 (take 8 (drop 1 ms))) (none_changed (character o) (character x) refl e) ∙ moves_in x fits_too
 
   pub characters_apart : (o ≡ x → ⊥) → 2 ≤ changes (character o) (character x)
-  characters_apart other = by_count (changes (character o) (character x)) none_is_same one_is_wrong
-    where
-      by_count : (n : ℕ) → (n ≡ 0 → o ≡ x) → (n ≡ 1 → ⊥) → 2 ≤ n
-      by_count n none one =
-          elim (cases_eq n 0) [
-            | inl z ↦ absurd (other (none z))
-            | inr k ↦ elim (cases_eq n 1) [ inl u ↦ absurd (one u) | inr l ↦ omega arith ]
-          ]
+  characters_apart other = let none : changes (character o) (character x) ≡ 0 → ⊥ = λ e. other (none_is_same e) in omega (arith, none, one_is_wrong)

@@ -1,9 +1,10 @@
 -- Frames as octets: what is read of them, and that one other octet shows.
-use Rattle.std.proofs.Common.{◌≡◌, ℕ, zero, suc, ◌+◌, ◌%◌, ◌<◌, ◌≤◌, Bool, true, false, cond, ◌||◌, eqb, leb, ◌⊎◌, List, [], ◌∷◌, ◌++◌, length, sym, refl, ap, ◌∙◌, subst, inl, inr, arith, lit<}
+use Rattle.std.proofs.Common.{◌≡◌, ℕ, zero, suc, ◌+◌, ◌%◌, ◌<◌, Bool, true, false, cond, ◌||◌, eqb, leb, ◌⊎◌, List, [], ◌∷◌, ◌++◌, length, sym, refl, ap, ◌∙◌, subst, inl, inr, arith, lit<}
 use Rattle.std.proofs.lemmas.Bool.{cases_eq, eq-eqb, ne_eqb, eqb-true, leb-true, cond-true, cond-false, or_cases, lt-ltb, ltb-true}
 use Rattle.std.proofs.lemmas.List.{nil_from_length}
 use Rattle.lines.proofs.Octets.{every, every_below}
 use Rattle.lines.specs.Characters.{character}
+use Rattle.formats.proofs.Octets.{octets_join}
 use Rattle.formats.specs.Laws.{Octets}
 use Rattle.formats.specs.Marks.{changes}
 use Rattle.formats.specs.Verdicts.{Verdict, open_list, tells, frame_of, fault_of, Open, Fault, octet_told}
@@ -48,7 +49,7 @@ due_silent : (b : Bool) (f : Ft12Fault) → octet_told (cond b open_list (faulty
 due_silent true f = refl
 due_silent false f = refl
 
-open_no_fault : (v : Verdict) → Open v → Fault v → ⊥
+pub open_no_fault : (v : Verdict) → Open v → Fault v → ⊥
 open_no_fault open_list o f = f
 open_no_fault (tells x) o f = f
 open_no_fault (frame_of k) o f = f
@@ -57,18 +58,9 @@ open_no_fault (fault_of c) o f = o
 frame_no_fault : (v : Verdict) (n : ℕ) → v ≡ frame_of n → Fault v → ⊥
 frame_no_fault v n e f = subst Fault e f
 
-open_no_frame : (n : ℕ) → open_list ≡ frame_of n → ⊥
-open_no_frame n e = let z : ◌≡◌ {A = ℕ} 0 1 = cc in omega arith
-
-tells_no_frame : (o n : ℕ) → tells o ≡ frame_of n → ⊥
-tells_no_frame o n e = let z : ◌≡◌ {A = ℕ} 0 1 = cc in omega arith
-
-same_frame : (k n : ℕ) → frame_of k ≡ frame_of n → n ≡ k
-same_frame k n e = cc
-
 due_no_frame : (b : Bool) (f : Ft12Fault) (n : ℕ) → cond b open_list (faulty f) ≡ frame_of n → ⊥
-due_no_frame true f n e = let z : ◌≡◌ {A = ℕ} 0 1 = cc in omega arith
-due_no_frame false f n e = let z : ◌≡◌ {A = ℕ} 0 1 = cc in omega arith
+due_no_frame true f n e = cc
+due_no_frame false f n e = cc
 
 -- the first character is wrong, or one of the four
 first_cases : (o : ℕ) → Fault (judge_first o) ⊎ ((o ≡ 0x10) ⊎ ((o ≡ 0x68) ⊎ ((o ≡ 0xE5) ⊎ (o ≡ 0xA2))))
@@ -98,9 +90,9 @@ is_fault (fault_of c) = true
 
 is_fault_means : (v : Verdict) → is_fault v ≡ true → Fault v
 unfolding is_fault
-is_fault_means open_list e = let z : ◌≡◌ {A = ℕ} 0 1 = cc in absurd (omega arith)
-is_fault_means (tells o) e = let z : ◌≡◌ {A = ℕ} 0 1 = cc in absurd (omega arith)
-is_fault_means (frame_of k) e = let z : ◌≡◌ {A = ℕ} 0 1 = cc in absurd (omega arith)
+is_fault_means open_list e = absurd cc
+is_fault_means (tells o) e = absurd cc
+is_fault_means (frame_of k) e = absurd cc
 is_fault_means (fault_of c) e = tt
 
 -- whether an octet is this one, or far from it in marks, or no first character
@@ -129,13 +121,10 @@ far_means a x t other near =
     elim (or_cases (eqb a x) (leb 4 (changes (character a) (character x)) || is_fault (judge_first x)) t) [
       | inl q ↦ absurd (other (eqb-true a x q))
       | inr r ↦ elim (or_cases (leb 4 (changes (character a) (character x))) (is_fault (judge_first x)) r) [
-        | inl q ↦ absurd (too_near (changes (character a) (character x)) (leb-true 4 _ q) near)
+        | inl q ↦ absurd (omega (arith, leb-true 4 _ q, near))
         | inr q ↦ is_fault_means (judge_first x) q
       ]
     ]
-  where
-    too_near : (n : ℕ) → 4 ≤ n → n < 4 → ⊥
-    too_near n a b = omega arith
 
 -- near a first character there is no other
 starts_apart : (o x : ℕ) → x < 256 → (o ≡ x → ⊥) → changes (character o) (character x) < 4 → (Fault (judge_first o) → ⊥) → Fault (judge_first x)
@@ -189,7 +178,8 @@ module _ (fixed : ℕ) where
   end_only k [] n e = absurd e
   end_only k (y ∷ []) n e =
       let is : y ≡ 0x16 = due_is y 0x16 (frame_of (kind_number k)) fault.EndCharacter (frame_no_fault _ n e) in
-      (ap (λ x. x ∷ []) is, same_frame (kind_number k) n (sym (due_verdict y 0x16 (frame_of (kind_number k)) fault.EndCharacter is) ∙ e))
+      let same : frame_of (kind_number k) ≡ frame_of n = sym (due_verdict y 0x16 (frame_of (kind_number k)) fault.EndCharacter is) ∙ e in
+      (ap (λ x. x ∷ []) is, cc)
   end_only k (y ∷ (z ∷ os)) n e =
       let is : y ≡ 0x16 = due_is y 0x16 (frame_of (kind_number k)) fault.EndCharacter (open_no_fault _ e.0) in
       absurd (subst Open (due_verdict y 0x16 (frame_of (kind_number k)) fault.EndCharacter is) e.0)
@@ -210,7 +200,7 @@ module _ (fixed : ℕ) where
         whole = ap (λ z. z ∷ (y ∷ os)) same ∙ ap (λ r. ((s + 0) % 256) ∷ r) end.0;
       }
   users_only k (suc c) s [] n h b e = absurd e
-  users_only k (suc c) s (o ∷ []) n h b e = absurd (tells_no_frame o n e)
+  users_only k (suc c) s (o ∷ []) n h b e = absurd cc
   users_only k (suc c) s (o ∷ (x ∷ os)) n h b e =
       let less : (s + o) % 256 < 256 = omega arith in
       let r = users_only k c ((s + o) % 256) (x ∷ os) n less b.1 e.1 in
@@ -236,7 +226,7 @@ module _ (fixed : ℕ) where
     pub whole : os ≡ frame_octets the_kind users_are
 
   fixed_only : (os : List ℕ) (n : ℕ) → Octets os → Ends fixed place.First (0x10 ∷ os) (frame_of n) → FirstOnly (0x10 ∷ os) n
-  fixed_only [] n b e = absurd (open_no_frame n e)
+  fixed_only [] n b e = absurd cc
   fixed_only (x ∷ os) n b e =
       let r = users_only Fixed fixed 0 (x ∷ os) n (lit< tt) b e.1 in
       let us = r.users_are in
@@ -252,8 +242,8 @@ module _ (fixed : ℕ) where
       }
 
   variable_only : (os : List ℕ) (n : ℕ) → Octets os → Ends fixed place.First (0x68 ∷ os) (frame_of n) → FirstOnly (0x68 ∷ os) n
-  variable_only [] n b e = absurd (open_no_frame n e)
-  variable_only (l ∷ []) n b e = absurd (open_no_frame n e.1)
+  variable_only [] n b e = absurd cc
+  variable_only (l ∷ []) n b e = let last = e.1 in absurd cc
   variable_only (l ∷ (k ∷ [])) n b e = absurd (due_no_frame (eqb k l) fault.LengthsDiffer n e.1.1)
   variable_only (l ∷ (k ∷ (c ∷ []))) n b e = absurd (due_no_frame (eqb c 0x68) fault.FourthCharacter n e.1.1.1)
   variable_only (l ∷ (k ∷ (c ∷ (x ∷ os)))) n b e =
@@ -278,11 +268,11 @@ module _ (fixed : ℕ) where
       }
 
   e5_only : (os : List ℕ) (n : ℕ) → Ends fixed place.First (0xE5 ∷ os) (frame_of n) → FirstOnly (0xE5 ∷ os) n
-  e5_only [] n e = record { the_kind = SingleE5; of_kind = same_frame 3 n e; users_are = []; are_told = refl; as_many = refl; as_octets = tt; whole = refl }
+  e5_only [] n e = record { the_kind = SingleE5; of_kind = cc; users_are = []; are_told = refl; as_many = refl; as_octets = tt; whole = refl }
   e5_only (x ∷ os) n e = absurd e.0
 
   a2_only : (os : List ℕ) (n : ℕ) → Ends fixed place.First (0xA2 ∷ os) (frame_of n) → FirstOnly (0xA2 ∷ os) n
-  a2_only [] n e = record { the_kind = SingleA2; of_kind = same_frame 4 n e; users_are = []; are_told = refl; as_many = refl; as_octets = tt; whole = refl }
+  a2_only [] n e = record { the_kind = SingleA2; of_kind = cc; users_are = []; are_told = refl; as_many = refl; as_octets = tt; whole = refl }
   a2_only (x ∷ os) n e = absurd e.0
 
   pub first_only : (os : List ℕ) (n : ℕ) → Octets os → Ends fixed place.First os (frame_of n) → FirstOnly os n
@@ -307,13 +297,13 @@ module _ (fixed : ℕ) where
       let is : x ≡ s = due_is x s open_list fault.Sum (ends_no_fault (place.Sum k s) x os n e) in
       inl (due_fault x t open_list fault.Sum (λ q. other (sym is ∙ q)))
   sums_apart k (suc c) s t [] n hs ht other e = absurd e
-  sums_apart k (suc c) s t (o ∷ []) n hs ht other e = absurd (tells_no_frame o n e)
+  sums_apart k (suc c) s t (o ∷ []) n hs ht other e = absurd cc
   sums_apart k (suc c) s t (o ∷ (x ∷ os)) n hs ht other e =
       inr (tt, sums_apart k c ((s + o) % 256) ((t + o) % 256) (x ∷ os) n (omega arith) (omega arith) (λ q. other (omega arith)) e.1)
 
   pub other_shows : (p : Place) (o x : ℕ) (os : List ℕ) (n : ℕ) → o < 256 → x < 256 → (o ≡ x → ⊥) → changes (character o) (character x) < 4 → Ends fixed p (o ∷ os) (frame_of n) → Shows fixed p (x ∷ os)
   other_shows place.First o x os n ho hx other near e = inl (starts_apart o x hx other near (ends_no_fault place.First o os n e))
-  other_shows place.Length o x [] n ho hx other near e = absurd (open_no_frame n e)
+  other_shows place.Length o x [] n ho hx other near e = absurd cc
   other_shows place.Length o x (y ∷ os) n ho hx other near e =
       let is : y ≡ o = due_is y o open_list fault.LengthsDiffer (ends_no_fault (place.Again o) y os n e.1) in
       inr (tt, inl (due_fault y x open_list fault.LengthsDiffer (λ q. other (sym is ∙ q))))
@@ -323,7 +313,7 @@ module _ (fixed : ℕ) where
   other_shows (place.Fourth l) o x os n ho hx other near e =
       let is : o ≡ 0x68 = due_is o 0x68 open_list fault.FourthCharacter (ends_no_fault (place.Fourth l) o os n e) in
       inl (due_fault x 0x68 open_list fault.FourthCharacter (λ q. other (is ∙ sym q)))
-  other_shows (place.User k c s) o x [] n ho hx other near e = absurd (tells_no_frame o n e)
+  other_shows (place.User k c s) o x [] n ho hx other near e = absurd cc
   other_shows (place.User k c s) o x (y ∷ os) n ho hx other near e =
       inr (tt, sums_apart k c ((s + o) % 256) ((s + x) % 256) (y ∷ os) n (omega arith) (omega arith) (λ q. other (omega arith)) e.1)
   other_shows (place.Sum k s) o x os n ho hx other near e =
@@ -365,10 +355,6 @@ module _ (fixed : ℕ) where
       ap (λ ts. ts ++ told_of fixed (users Variable (length os) 0) (closed os)) (due_silent (eqb (length os) (length os)) fault.LengthsDiffer) ∙ users_told Variable os 0 (sum_of os)
   frame_told SingleE5 os c = sym (nil_from_length os (eqb-true (length os) 0 c))
   frame_told SingleA2 os c = sym (nil_from_length os (eqb-true (length os) 0 c))
-
-octets_join : (xs ys : List ℕ) → Octets xs → Octets ys → Octets (xs ++ ys)
-octets_join [] ys a b = b
-octets_join (x ∷ xs) ys a b = (a.0, octets_join xs ys a.1 b)
 
 pub frame_are_octets : (fixed : ℕ) (k : Kind) (os : List ℕ) → count_suits fixed k (length os) ≡ true → Octets os → Octets (frame_octets k os)
 frame_are_octets fixed Fixed os c b = (lit< tt, octets_join os _ b (omega arith, (lit< tt, tt)))

@@ -7,9 +7,9 @@ use Rattle.lines.specs.declared.mark.Mark.{Mark}
 use Rattle.lines.specs.declared.mark.Mark.TheVariants.{One}
 use Rattle.formats.specs.Laws.{Octets}
 use Rattle.formats.specs.Marks.{changes, ones}
+use Rattle.formats.proofs.Changes.{changes_join}
 use Rattle.ft12_laws.specs.Frames.{characters}
 use Rattle.ft12_laws.proofs.Bits.{two_zeros}
-use Rattle.ft12_laws.proofs.Counts.{changes_join}
 
 -- what is altered behind the first marks is altered
 changes_behind : (xs ys zs : List Mark) → changes ys (drop (length xs) zs) ≤ changes (xs ++ ys) zs
@@ -25,10 +25,7 @@ two_quiet a b rest ms ha hb =
     let second = changes_join (character b) rest (ones 11) ms refl in
     let za = two_zeros a ha in
     let zb = two_zeros b hb in
-    sums _ _ _ _ _ first second za zb
-  where
-    sums : (n m x y z : ℕ) → n ≡ x + m → m ≡ y + z → 2 ≤ x → 2 ≤ y → 4 ≤ n
-    sums n m x y z e f h k = omega arith
+    omega (arith, first, second, za, zb)
 
 -- ones from within a character on
 within : (k : ℕ) (before after : List Mark) → length before ≡ k → k < 11 → drop 11 (before ++ (ones 33 ++ after)) ≡ ones 22 ++ (ones k ++ after)

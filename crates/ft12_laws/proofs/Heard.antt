@@ -7,48 +7,43 @@ use Rattle.lines.specs.declared.mark.Mark.TheVariants.{Zero, One, Bad}
 use Rattle.formats.specs.Laws.{Octets}
 use Rattle.formats.specs.Machine.{Machine}
 use Rattle.formats.specs.Marks.{behind_first, changes}
-use Rattle.formats.specs.Verdicts.{Verdict, open_list, tells, frame_of, fault_of, Open, Fault, octet_told}
-use Rattle.formats.proofs.Machines.{Breaks, Judged, told}
+use Rattle.formats.specs.Verdicts.{Verdict, frame_of, Fault, octet_told}
+use Rattle.formats.proofs.Changes.{changes_join, changes_self}
+use Rattle.formats.proofs.Machines.{Breaks, BreaksBy, Judged, told}
 use Rattle.ft12_laws.specs.Frames.{characters}
 use Rattle.ft12_laws.specs.Machine.{beginning, ft12_machine}
 use Rattle.ft12_laws.specs.Reading.{judge, judge_start, judge_data, judge_parity, next}
 use Rattle.ft12_laws.specs.declared.reading.Place.{Place}
-use Rattle.ft12_laws.proofs.Counts.{changes_join, changes_self, characters_apart}
-use Rattle.ft12_laws.proofs.Frames.{Ends, Shows, told_of, ends_more, other_shows}
-use Rattle.ft12_laws.proofs.Steps.{BreaksBy, IsCharacter, eleven, breaks_or_character, character_breaks, character_goes_on, character_last, character_told, character_went_on, last_character}
+use Rattle.ft12_laws.proofs.Counts.{characters_apart}
+use Rattle.ft12_laws.proofs.Frames.{Ends, Shows, told_of, ends_more, open_no_fault, other_shows}
+use Rattle.ft12_laws.proofs.Steps.{IsCharacter, eleven, breaks_or_character, character_breaks, character_goes_on, character_last, character_told, character_went_on, last_character}
 
 -- a judged frame does not break
 pub frame_unbroken : {S : Type 0} (t : Machine S) (s : S) (ms : List Mark) (n : ℕ) → Judged t s ms (frame_of n) → Breaks t s ms → ⊥
 frame_unbroken t s [] n j k = j
 frame_unbroken t s (m ∷ []) n j (inl f) = subst Fault j f
 frame_unbroken t s (m ∷ []) n j (inr k) = k.1
-frame_unbroken t s (m ∷ (x ∷ ms)) n j (inl f) = open_sound (t.says s m) j.0 f
-  where
-    open_sound : (v : Verdict) → Open v → Fault v → ⊥
-    open_sound open_list o f = f
-    open_sound (tells x) o f = f
-    open_sound (frame_of k) o f = f
-    open_sound (fault_of c) o f = o
+frame_unbroken t s (m ∷ (x ∷ ms)) n j (inl f) = open_no_fault (t.says s m) j.0 f
 frame_unbroken t s (m ∷ (x ∷ ms)) n j (inr k) = frame_unbroken t (t.after s m) (x ∷ ms) n j.1 k.1
 
 start_no_frame : (m : Mark) (n : ℕ) → judge_start m ≡ frame_of n → ⊥
-start_no_frame Zero n e = let z : ◌≡◌ {A = ℕ} 0 1 = cc in omega arith
-start_no_frame One n e = let z : ◌≡◌ {A = ℕ} 0 1 = cc in omega arith
-start_no_frame Bad n e = let z : ◌≡◌ {A = ℕ} 0 1 = cc in omega arith
+start_no_frame Zero n e = cc
+start_no_frame One n e = cc
+start_no_frame Bad n e = cc
 
 data_no_frame : (m : Mark) (n : ℕ) → judge_data m ≡ frame_of n → ⊥
-data_no_frame Zero n e = let z : ◌≡◌ {A = ℕ} 0 1 = cc in omega arith
-data_no_frame One n e = let z : ◌≡◌ {A = ℕ} 0 1 = cc in omega arith
-data_no_frame Bad n e = let z : ◌≡◌ {A = ℕ} 0 1 = cc in omega arith
+data_no_frame Zero n e = cc
+data_no_frame One n e = cc
+data_no_frame Bad n e = cc
 
 parity_no_frame : (due m : Mark) (n : ℕ) → judge_parity due m ≡ frame_of n → ⊥
-parity_no_frame due Bad n e = let z : ◌≡◌ {A = ℕ} 0 1 = cc in omega arith
-parity_no_frame Zero Zero n e = let z : ◌≡◌ {A = ℕ} 0 1 = cc in omega arith
-parity_no_frame One Zero n e = let z : ◌≡◌ {A = ℕ} 0 1 = cc in omega arith
-parity_no_frame Bad Zero n e = let z : ◌≡◌ {A = ℕ} 0 1 = cc in omega arith
-parity_no_frame Zero One n e = let z : ◌≡◌ {A = ℕ} 0 1 = cc in omega arith
-parity_no_frame One One n e = let z : ◌≡◌ {A = ℕ} 0 1 = cc in omega arith
-parity_no_frame Bad One n e = let z : ◌≡◌ {A = ℕ} 0 1 = cc in omega arith
+parity_no_frame due Bad n e = cc
+parity_no_frame Zero Zero n e = cc
+parity_no_frame One Zero n e = cc
+parity_no_frame Bad Zero n e = cc
+parity_no_frame Zero One n e = cc
+parity_no_frame One One n e = cc
+parity_no_frame Bad One n e = cc
 
 -- a list has eleven marks or more, or fewer
 data Cut : List Mark → Type 0 where
@@ -68,25 +63,6 @@ cut (s ∷ (a ∷ (b ∷ (c ∷ (d ∷ (e ∷ (f ∷ (g ∷ [])))))))) = short (
 cut (s ∷ (a ∷ (b ∷ (c ∷ (d ∷ (e ∷ (f ∷ (g ∷ (h ∷ []))))))))) = short (omega arith)
 cut (s ∷ (a ∷ (b ∷ (c ∷ (d ∷ (e ∷ (f ∷ (g ∷ (h ∷ (i ∷ [])))))))))) = short (omega arith)
 cut (s ∷ (a ∷ (b ∷ (c ∷ (d ∷ (e ∷ (f ∷ (g ∷ (h ∷ (i ∷ (t ∷ rest))))))))))) = long s a b c d e f g h i t rest
-
--- sums of altered marks
-behind_few : (n a c : ℕ) → n ≡ a + c → n ≤ 1 → c ≤ 1
-behind_few n a c e h = omega arith
-
-two_many : (n a c : ℕ) → n ≡ a + c → 2 ≤ a → n ≤ 1 → ⊥
-two_many n a c e h k = omega arith
-
-three_less : (n a c : ℕ) → n ≡ a + c → 2 ≤ a → n < 4 → c ≤ 1
-three_less n a c e h k = omega arith
-
-front_few : (n a c : ℕ) → n ≡ a + c → n < 4 → a < 4
-front_few n a c e h = omega arith
-
-behind_some : (n a c : ℕ) → n ≡ a + c → a ≡ 0 → 1 ≤ n → 1 ≤ c
-behind_some n a c e z h = omega arith
-
-behind_less : (n a c : ℕ) → n ≡ a + c → n < 4 → c < 4
-behind_less n a c e h = omega arith
 
 same_none : (o x : ℕ) → o ≡ x → changes (character o) (character x) ≡ 0
 same_none o x q = subst (λ z. changes (character o) (character z) ≡ 0) q (changes_self (character o))
@@ -187,9 +163,9 @@ module _ (fixed : ℕ) where
             elim (cases_eq o h.octet) [
               | inl q ↦ elim shows [
                 | inl f ↦ goes_on p o heard (length (characters os)) h q (inl f)
-                | inr k ↦ goes_on p o heard (length (characters os)) h q (inr (k.0, late os (next fixed p o) h.rest b.1 h.rest_long (behind_few _ _ _ split few) k.1))
+                | inr k ↦ goes_on p o heard (length (characters os)) h q (inr (k.0, late os (next fixed p o) h.rest b.1 h.rest_long (omega (arith, split, few)) k.1))
               ]
-              | inr other ↦ absurd (two_many _ _ _ split (characters_apart o h.octet b.0 h.fits other) few)
+              | inr other ↦ absurd (omega (arith, split, characters_apart o h.octet b.0 h.fits other, few))
             ]
       ]
 
@@ -208,13 +184,13 @@ module _ (fixed : ℕ) where
             let split = changes_split o os heard (length (characters os)) h in
             elim (cases_eq o h.octet) [
               | inl q ↦
-                  let more = behind_some _ _ _ split (same_none o h.octet q) some in
+                  let more : 1 ≤ changes (characters os) h.rest = omega (arith, split, same_none o h.octet q, some) in
                   goes_on p o heard (length (characters os)) h q
-                  (passed os h.rest e more (λ a. altered_breaks os (next fixed p o) h.rest n b.1 a h.rest_long more (behind_less _ _ _ split few)))
+                  (passed os h.rest e more (λ a. altered_breaks os (next fixed p o) h.rest n b.1 a h.rest_long more (omega (arith, split, few))))
               | inr other ↦
                   goes_on p h.octet heard (length (characters os)) h refl
-                  (shown p h.octet os h.rest b.1 h.rest_long (three_less _ _ _ split (characters_apart o h.octet b.0 h.fits other) few)
-                  (other_shows fixed p o h.octet os n b.0 h.fits other (front_few _ _ _ split few) e))
+                  (shown p h.octet os h.rest b.1 h.rest_long (omega (arith, split, characters_apart o h.octet b.0 h.fits other, few))
+                  (other_shows fixed p o h.octet os n b.0 h.fits other (omega (arith, split, few)) e))
             ]
       ]
     where

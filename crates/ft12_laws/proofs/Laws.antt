@@ -1,13 +1,14 @@
 -- FT1.2 keeps the laws of a format, at every fixed length.
-use Rattle.std.proofs.Common.{◌≡◌, ℕ, suc, ◌<◌, ◌≤◌, true, ◌⊎◌, List, [], ◌∷◌, ◌++◌, length, Some, None, sym, refl, ap, ◌∙◌, subst, inl, inr, arith, lit≤}
+use Rattle.std.proofs.Common.{◌≡◌, ℕ, ◌<◌, ◌≤◌, true, ◌⊎◌, List, [], ◌∷◌, ◌++◌, length, Some, None, sym, refl, ap, ◌∙◌, subst, inl, inr, arith, lit≤}
 use Rattle.std.proofs.lemmas.Bool.{cases_eq, ne_eqb, both_ways}
 use Rattle.lines.specs.Characters.{parity_mark}
 use Rattle.lines.specs.declared.mark.Mark.{Mark}
 use Rattle.lines.specs.declared.mark.Mark.TheVariants.{Zero}
 use Rattle.formats.specs.Laws.{Laws, Lawful, Octets}
 use Rattle.formats.specs.Machine.{reached}
-use Rattle.formats.specs.Marks.{Altered, Begins, Quiet, behind_first, change, changes}
+use Rattle.formats.specs.Marks.{Altered, Begins, Quiet, behind_first, changes}
 use Rattle.formats.specs.Verdicts.{frame_of}
+use Rattle.formats.proofs.Changes.{altered_counts}
 use Rattle.formats.proofs.Machines.{Agrees, Breaks, Judged, MachineLaws, laws_of, told}
 use Rattle.ft12_laws.specs.Frames.{characters, count_suits, frame_marks, frame_octets, is_kind, kind_number, kind_of, suits_kind}
 use Rattle.ft12_laws.specs.Machine.{beginning, ft12_machine, says_at}
@@ -18,7 +19,6 @@ use Rattle.ft12_laws.specs.declared.reading.Place.{Place}
 use Rattle.ft12_laws.specs.declared.reading.Place.TheVariants as place
 use Rattle.ft12_laws.proofs.Bits.{moved, moved_is}
 use Rattle.ft12_laws.proofs.Bounds.{few_marks, few_octets, gap_closes_at, sound_reached}
-use Rattle.ft12_laws.proofs.Counts.{change_self}
 use Rattle.ft12_laws.proofs.Frames.{first_only, frame_are_octets, frame_ends, frame_told}
 use Rattle.ft12_laws.proofs.Gaps.{quiet_costs}
 use Rattle.ft12_laws.proofs.Heard.{altered_breaks, ends_judged, judged_ends, told_characters}
@@ -100,14 +100,6 @@ frame_begins Variable os = refl
 frame_begins SingleE5 os = refl
 frame_begins SingleA2 os = refl
 
--- altered marks of a list, the first included
-altered_whole : (d : ℕ) (sent heard : List Mark) → Altered d sent heard → (length heard ≡ length sent) × (1 ≤ changes sent heard) × (changes sent heard < d)
-altered_whole d [] heard a = absurd a
-altered_whole d (m ∷ ms) [] a = absurd a
-altered_whole d (m ∷ ms) (n ∷ ns) a =
-    let none : change m n ≡ 0 = ap (change m) a.0 ∙ change_self m in
-    (ap suc a.1, omega (arith, a.2), omega (arith, a.3))
-
 quiet_whole : (n : ℕ) (sent heard : List Mark) → Altered n sent heard → Quiet 33 (behind_first heard) → Quiet 33 heard
 quiet_whole n [] heard a q = absurd a
 quiet_whole n (m ∷ ms) [] a q = absurd a
@@ -144,20 +136,17 @@ module _ (fixed : ℕ) (small : fixed < 256) where
   machine_shows n os heard l a =
       let f = known fixed n os l in
       let octets = frame_octets f.the_kind os in
-      let whole = altered_whole 4 (characters octets) heard (subst (λ ms. Altered 4 ms heard) f.its_marks a) in
+      let whole = altered_counts 4 (characters octets) heard (subst (λ ms. Altered 4 ms heard) f.its_marks a) in
       altered_breaks fixed octets place.First heard (kind_number f.the_kind) f.its_octets (frame_ends fixed f.the_kind os f.as_many) whole.0 whole.1 whole.2
 
   machine_unquiet : (n : ℕ) (os : List ℕ) (heard : List Mark) → Lawful (ft12_model fixed) n os → Altered 4 ((ft12_model fixed).frame n os) heard → Quiet 33 (behind_first heard) → ⊥
   machine_unquiet n os heard l a quiet =
       let f = known fixed n os l in
       let octets = frame_octets f.the_kind os in
-      let whole = altered_whole 4 (characters octets) heard (subst (λ ms. Altered 4 ms heard) f.its_marks a) in
+      let whole = altered_counts 4 (characters octets) heard (subst (λ ms. Altered 4 ms heard) f.its_marks a) in
       let q = quiet_whole 4 ((ft12_model fixed).frame n os) heard a quiet in
       let cost = quiet_costs octets q.0 q.1 f.its_octets (sym (ap length q.2) ∙ whole.0) in
-      too_many _ (subst (λ ms. 4 ≤ changes (characters octets) ms) (sym q.2) cost) whole.2
-    where
-      too_many : (n : ℕ) → 4 ≤ n → n < 4 → ⊥
-      too_many n h k = omega arith
+      omega (arith, subst (λ ms. 4 ≤ changes (characters octets) ms) (sym q.2) cost, whole.2)
 
   machine_laws : MachineLaws (ft12_machine fixed) (ft12_model fixed)
   machine_laws = record {

@@ -3,16 +3,12 @@ use Rattle.std.proofs.Common.{◌≡◌, ℕ, ◌<◌, Bool, true, false, ◌⊎
 use Rattle.lines.specs.Characters.{bit, character, data_marks, mark_if, odd_ones, parity_mark}
 use Rattle.lines.specs.declared.mark.Mark.{Mark}
 use Rattle.lines.specs.declared.mark.Mark.TheVariants.{Zero, One, Bad}
-use Rattle.formats.specs.Verdicts.{Verdict, open_list, Open, Fault, octet_told}
-use Rattle.formats.proofs.Machines.{Breaks, Judged, told}
+use Rattle.formats.specs.Verdicts.{Verdict, open_list, Open, octet_told}
+use Rattle.formats.proofs.Machines.{Breaks, BreaksBy, Judged, told}
 use Rattle.ft12_laws.specs.Machine.{beginning, ft12_machine}
 use Rattle.ft12_laws.specs.Reading.{judge, judge_start, judge_data, judge_parity, judge_stop, next}
 use Rattle.ft12_laws.specs.declared.reading.Place.{Place}
 use Rattle.ft12_laws.proofs.Bits.{moved, moved_below, moved_marks, moves_in}
-
--- a fault here, or open here and a break later
-abbrev pub BreaksBy : Verdict → Type 0 → Type 0
-BreaksBy v X = Fault v ⊎ (Open v × X)
 
 later : {X Y : Type 0} (v : Verdict) → Open v → X ⊎ Y → BreaksBy v X ⊎ Y
 later v o (inl x) = inl (inr (o, x))

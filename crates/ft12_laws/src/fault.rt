@@ -42,6 +42,7 @@ impl From<CharacterFault> for Ft12Fault {
     }
 }
 
+// told by cases: one that holds the fault of a layer below has no number of its own
 impl Fault for CharacterFault {
     ghost cause = { character_cause };
 

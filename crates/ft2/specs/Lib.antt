@@ -1,3 +1,3 @@
 pub mod Standing
 pub mod Making
-pub mod Putting
+pub mod Writing

@@ -3,29 +3,20 @@ use Rattle.std.specs.Prelude.{◌≡◌, ℕ, Bool, true, false, List, [], ◌�
 use Rattle.checks.specs.Bits.{block_bits}
 use Rattle.checks.specs.Standing.{Stands}
 use Rattle.lines.specs.declared.mark.Mark.{Mark}
-use Rattle.lines.specs.declared.mark.Mark.TheVariants.{Zero, One, Bad}
 use Rattle.formats.specs.Answers.{Tells}
 use Rattle.formats.specs.Machine.{StandsFor}
 use Rattle.formats.specs.Verdicts.{Open}
-use Rattle.formats.specs.declared.fault.LineFault.{LineFault}
-use Rattle.formats.specs.declared.fault.LineFault.TheVariants.{BadMark}
 use Rattle.formats.specs.declared.format.Progress.{Progress}
 use Rattle.formats.specs.declared.format.Progress.TheVariants as progress
 use Rattle.ft2_laws.specs.Faults.{ft2_cause}
 use Rattle.ft2_laws.specs.Reading.{Place, Reading, start, user, check, after_block, after_at, ft2_machine, judge, judge_block, next, says_at}
 use Rattle.ft2_laws.specs.declared.fault.Ft2Fault.{Ft2Fault}
 use Rattle.ft2_laws.specs.declared.reading.Block.{Block}
-use Rattle.ft2_laws.specs.declared.reading.Part.{Part}
-use Rattle.ft2_laws.specs.declared.reading.Part.TheVariants.{First, Later}
+use Rattle.ft2_laws.specs.declared.reading.Part.TheVariants.{First}
+use Rattle.ft2_laws.specs.declared.settings.Settings.{Settings}
 use Rattle.ft2.specs.declared.reader.Position.{Position}
 use Rattle.ft2.specs.declared.reader.Position.TheVariants as position
 use Rattle.ft2.specs.declared.reader.Reader.{Reader}
-
--- the bit of a good mark
-abbrev pub bit_of : Mark → Result ℕ LineFault
-bit_of Zero = Ok 0
-bit_of One = Ok 1
-bit_of Bad = Err BadMark
 
 -- a place without the octets of its block
 abbrev pub position_of : Place → Position
@@ -54,34 +45,28 @@ pub record Holds (r : Reader) (s : Reading) : Type 0 where
   pub part_is : r.part ≡ s.part
 
 -- the reader, at its settings, stands for a list
-abbrev pub Standing : ℕ → ℕ → Reader → List Mark → Type 0
-Standing fixed header r ms = (s : Reading) × Holds r s × StandsFor (ft2_machine fixed header) s ms
+abbrev pub Standing : Settings → Reader → List Mark → Type 0
+Standing settings r ms = (s : Reading) × Holds r s × StandsFor (ft2_machine settings) s ms
 
 -- no mark of a frame has come
-abbrev pub rests : Position → Part → Bool
-rests position.Start First = true
-rests position.Start (Later left o) = false
-rests (position.User b left) a = false
-rests (position.Check b) a = false
-
-abbrev pub at_rest : Reader → Bool
-at_rest r = rests r.position r.part
+abbrev pub AtRest : Reader → Type 0
+AtRest r = (r.position ≡ position.Start) × (r.part ≡ First)
 
 -- an octet is judged as at each place that the reader may be at, and where it leaves the list open, the reader goes on
-abbrev pub Judges : ℕ → ℕ → Reader → ℕ → Result Progress Ft2Fault → Reader → Type 0
-Judges fixed header before octet r after = (p : Place) → At before p → Tells ft2_cause (judge p octet) r × (Open (judge p octet) → At after (next fixed header p octet))
+abbrev pub Judges : Settings → Reader → ℕ → Result Progress Ft2Fault → Reader → Type 0
+Judges settings before octet r after = (p : Place) → At before p → Tells ft2_cause (judge p octet) r × (Open (judge p octet) → At after (next settings p octet))
 
 -- so for the start octet
-abbrev pub StartJudged : ℕ → ℕ → ℕ → Result Progress Ft2Fault → Reader → Type 0
-StartJudged fixed header octet r after = Tells ft2_cause (judge start octet) r × (Open (judge start octet) → At after (next fixed header start octet))
+abbrev pub StartJudged : Settings → ℕ → Result Progress Ft2Fault → Reader → Type 0
+StartJudged settings octet r after = Tells ft2_cause (judge start octet) r × (Open (judge start octet) → At after (next settings start octet))
 
 -- and at the end of a block whose check octet is right
 abbrev pub BlockJudged : Block → Reader → Result Progress Ft2Fault → Reader → Type 0
 BlockJudged b before r after = (os : List ℕ) → before.first ≡ head_of os → Tells ft2_cause (judge_block b os) r × (Open (judge_block b os) → At after (after_block b os))
 
 -- a mark is judged as in each state that the reader may hold, and where it leaves the list open, the reader goes on
-abbrev pub Takes : ℕ → ℕ → Reader → Mark → Result Progress Ft2Fault → Reader → Type 0
-Takes fixed header before m r after = (s : Reading) → Holds before s → Tells ft2_cause (says_at s.place s.part m) r × (Open (says_at s.place s.part m) → Holds after (after_at fixed header s.place s.part m))
+abbrev pub Takes : Settings → Reader → Mark → Result Progress Ft2Fault → Reader → Type 0
+Takes settings before m r after = (s : Reading) → Holds before s → Tells ft2_cause (says_at s.place s.part m) r × (Open (says_at s.place s.part m) → Holds after (after_at settings s.place s.part m))
 
 -- whether an answer ends the list
 abbrev pub closes : Result Progress Ft2Fault → Bool

@@ -2,10 +2,9 @@
 #![tactic(auto)]
 
 pub mod format;
-mod kind;
+mod frame;
 mod marks;
 mod reader;
-mod settings;
 #[cfg(test)]
 mod tests;
 pub mod writer;

@@ -1,24 +1,21 @@
 // Octets and blocks put into a mark buffer, one octet 00 or 01 a mark.
 ghost use Rattle.std.specs.Prelude.{◌+◌, ◌*◌, ◌≤◌, [], ◌∷◌, length};
+ghost use Rattle.formats.specs.Putting.{Put};
 ghost use Rattle.ft2_laws.specs.Frames.{in_blocks, marks_of, octet_marks, with_check};
-ghost use Rattle.ft2.specs.Putting.{Put};
 
 use checks::block::check_octet;
+use checks::octet::octet_bits;
 
-// A block has at most so many octets.
-const BLOCK: usize = 15;
+// A block has at most so many octets. The reader has its own, in the octets that it counts with.
+pub(crate) const BLOCK: usize = 15;
 
 // An octet, highest bit first.
 pub(crate) fn put_octet(marks: &mut [u8], at: usize, octet: u8) -> usize
     requires { at + 8 ≤ length marks.old }
     ensures { Put at (octet_marks octet) marks.old result marks.new }
 {
-    let mut next = at;
-    for k in (0..8u8).rev() {
-        marks[next] = (octet >> k) & 1;
-        next += 1;
-    }
-    next
+    marks[at..at + 8].copy_from_slice(&octet_bits(octet).map(u8::from));
+    at + 8
 }
 
 // A block and its check octet.
@@ -39,13 +36,8 @@ pub(crate) fn put_blocks(marks: &mut [u8], at: usize, octets: &[u8]) -> usize
     ensures { Put at (marks_of (in_blocks octets.now)) marks.old result marks.new }
 {
     let mut next = at;
-    let mut from = 0;
-    while octets.len() - from > BLOCK {
-        next = put_block(marks, next, &octets[from..from + BLOCK]);
-        from += BLOCK;
-    }
-    if from < octets.len() {
-        next = put_block(marks, next, &octets[from..octets.len()]);
+    for block in octets.chunks(BLOCK) {
+        next = put_block(marks, next, block);
     }
     next
 }

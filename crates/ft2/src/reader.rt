@@ -1,17 +1,17 @@
 // What the reader keeps of the list so far, and what it says of a mark more.
-ghost use Rattle.std.specs.Prelude.{◌≡◌, ℕ, List, [], ◌∷◌, ◌++◌, Some};
+ghost use Rattle.std.specs.Prelude.{◌≡◌, ℕ, List, [], ◌∷◌, ◌++◌, Decides};
+ghost use Rattle.lines.specs.declared.mark.Mark.TheVariants.{One};
 ghost use Rattle.ft2_laws.specs.Reading.{beginning, fixed_block, start, user, users};
 ghost use Rattle.ft2_laws.specs.declared.reading.Block.TheVariants.{Header};
-ghost use Rattle.ft2.specs.Standing.{At, BlockJudged, Holds, Judges, StartJudged, Takes, bit_of, at_rest, head_of, position_of};
+ghost use Rattle.ft2.specs.Standing.{At, AtRest, BlockJudged, Holds, Judges, StartJudged, Takes, position_of};
 
-use crate::kind::kind_number;
-use crate::settings::Settings;
 use checks::register::Register;
-use formats::fault::LineFault;
+use formats::fault::good_mark;
 use formats::format::Progress;
 use ft2_laws::fault::Ft2Fault;
 use ft2_laws::kind::Kind;
 use ft2_laws::reading::{Block, Part};
+use ft2_laws::settings::Settings;
 use lines::mark::Mark;
 
 // A block has at most so many octets.
@@ -22,7 +22,7 @@ const BLOCK: u8 = 15;
 pub(crate) enum Position {
     Start,
     // a user octet: its block, and how many octets of the block come after it
-    User(Block, u8),
+    User { block: Block, left: u8 },
     // the check octet of a block
     Check(Block),
 }
@@ -38,17 +38,6 @@ pub(crate) struct Reader {
     register: Register,
 }
 
-// The bit of a mark.
-fn bit_of(mark: Mark) -> Result<u8, LineFault>
-    ensures { result ≡ bit_of mark }
-{
-    match mark {
-        Mark::Zero => Ok(0),
-        Mark::One => Ok(1),
-        Mark::Bad => Err(LineFault::BadMark),
-    }
-}
-
 // Where so many octets of a block are to come.
 fn to_come(block: Block, count: u8) -> Position
     ensures { (os : List ℕ) → result ≡ position_of (users block os count) }
@@ -56,17 +45,10 @@ fn to_come(block: Block, count: u8) -> Position
     if count == 0 {
         Position::Check(block)
     } else {
-        Position::User(block, count - 1)
-    }
-}
-
-// The first octet of a block, with one octet more behind it.
-fn first_of(first: Option<u8>, octet: u8) -> u8
-    ensures { (os : List ℕ) → first ≡ head_of os → Some result ≡ head_of (os ++ (octet ∷ [])) }
-{
-    match first {
-        Some(first) => first,
-        None => octet,
+        Position::User {
+            block,
+            left: count - 1,
+        }
     }
 }
 
@@ -83,64 +65,62 @@ impl Reader {
         }
     }
 
-    // Whether no mark of a frame has come.
-    pub(crate) fn is_at_rest(&self) -> bool
-        ensures { result ≡ at_rest self.now }
+    // Whether the mark is a 1 before a frame.
+    pub(crate) fn is_idle(&self, mark: Mark) -> bool
+        ensures { Decides result (AtRest self.now × (mark ≡ One)) }
     {
-        match self.position {
-            Position::Start => match self.part {
-                Part::First => true,
-                Part::Later(_, _) => false,
-            },
-            Position::User(_, _) | Position::Check(_) => false,
-        }
+        matches!(
+            (self.position, self.part, mark),
+            (Position::Start, Part::First, Mark::One)
+        )
     }
 
     // One mark more. A bad one is a fault; the eighth mark of an octet has the octet judged.
     pub(crate) fn take(&mut self, settings: Settings, mark: Mark) -> Result<Progress, Ft2Fault>
-        ensures { Takes settings.fixed settings.header self.old mark result self.new }
+        ensures { Takes settings self.old mark result self.new }
     {
-        let bit = bit_of(mark)?;
+        let bit = u8::from(good_mark(mark)?);
         match self.part {
             Part::First => {
-                self.part = Part::Later(6, bit);
+                self.part = Part::Later {
+                    left: 6,
+                    octet: bit,
+                };
                 Ok(Progress::Open)
             },
-            Part::Later(left, octet) => {
-                let octet = (octet << 1) + bit;
-                if left > 0 {
-                    self.part = Part::Later(left - 1, octet);
-                    return Ok(Progress::Open);
-                }
-                let progress = self.judge(settings, octet)?;
+            Part::Later { left: 0, octet } => {
+                let progress = self.judge(settings, (octet << 1) + bit)?;
                 self.part = Part::First;
                 Ok(progress)
+            },
+            Part::Later { left, octet } => {
+                self.part = Part::Later {
+                    left: left - 1,
+                    octet: (octet << 1) + bit,
+                };
+                Ok(Progress::Open)
             },
         }
     }
 
     // An octet, by its position in the frame.
     fn judge(&mut self, settings: Settings, octet: u8) -> Result<Progress, Ft2Fault>
-        ensures { Judges settings.fixed settings.header self.old octet result self.new }
+        ensures { Judges settings self.old octet result self.new }
     {
         match self.position {
             Position::Start => self.begin_frame(settings, octet),
-            Position::User(block, left) => {
+            Position::User { block, left } => {
                 self.take_user(block, left, octet);
                 Ok(Progress::Octet(octet))
             },
-            Position::Check(block) => {
-                if octet != self.register.check() {
-                    return Err(Ft2Fault::CheckOctet);
-                }
-                self.end_block(block)
-            },
+            Position::Check(block) if octet == self.register.check() => self.end_block(block),
+            Position::Check(_) => Err(Ft2Fault::CheckOctet),
         }
     }
 
     // The start octet belongs to no block.
     fn begin_frame(&mut self, settings: Settings, octet: u8) -> Result<Progress, Ft2Fault>
-        ensures { StartJudged settings.fixed settings.header octet result self.new }
+        ensures { StartJudged settings octet result self.new }
     {
         match octet {
             0x27 => self.enter_fixed(settings.fixed),
@@ -154,7 +134,7 @@ impl Reader {
     fn take_user(&mut self, block: Block, left: u8, octet: u8)
         ensures { (os : List ℕ) → At self.old (user block os left) → At self.new (users block (os ++ (octet ∷ [])) left) }
     {
-        self.first = Some(first_of(self.first, octet));
+        self.first = self.first.or(Some(octet));
         self.register.take_octet(octet);
         self.position = to_come(block, left);
     }
@@ -164,13 +144,13 @@ impl Reader {
         ensures { BlockJudged block self.old result self.new }
     {
         match block {
-            Block::Fixed(0) => Ok(Progress::Frame(kind_number(Kind::Fixed))),
+            Block::Fixed(0) => Ok(Progress::Frame(Kind::Fixed.into())),
             Block::Fixed(left) => {
                 self.enter_fixed(left);
                 Ok(Progress::Open)
             },
             Block::Header => self.end_header(),
-            Block::Body => Ok(Progress::Frame(kind_number(Kind::Variable))),
+            Block::Body => Ok(Progress::Frame(Kind::Variable.into())),
         }
     }
 
@@ -178,29 +158,21 @@ impl Reader {
     fn end_header(&mut self) -> Result<Progress, Ft2Fault>
         ensures { BlockJudged Header self.old result self.new }
     {
-        let count = match self.first {
-            Some(first) => first,
-            None => 0,
-        };
-        if count > BLOCK {
-            return Err(Ft2Fault::BodyCount);
+        match self.first.unwrap_or(0) {
+            0 => Ok(Progress::Frame(Kind::Variable.into())),
+            count @ 1..=BLOCK => {
+                self.enter(Block::Body, count);
+                Ok(Progress::Open)
+            },
+            _ => Err(Ft2Fault::BodyCount),
         }
-        if count == 0 {
-            return Ok(Progress::Frame(kind_number(Kind::Variable)));
-        }
-        self.enter(Block::Body, count);
-        Ok(Progress::Open)
     }
 
     // The next block of a fixed frame, where so many user octets are to come.
     fn enter_fixed(&mut self, count: u8)
         ensures { At self.new (fixed_block count) }
     {
-        if count > BLOCK {
-            self.enter(Block::Fixed(count - BLOCK), BLOCK);
-        } else {
-            self.enter(Block::Fixed(0), count);
-        }
+        self.enter(Block::Fixed(count.saturating_sub(BLOCK)), count.min(BLOCK));
     }
 
     // A new block.

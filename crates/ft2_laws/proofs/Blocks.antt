@@ -6,8 +6,9 @@ use Rattle.checks.specs.Bits.{block_bits}
 use Rattle.checks.proofs.Octets.{check_octet_lt}
 use Rattle.lines.specs.declared.mark.Mark.{Mark}
 use Rattle.formats.specs.Laws.{Octets}
-use Rattle.formats.specs.Verdicts.{Cause, Verdict, open_list, tells, frame_of, fault_of, Open, octet_told}
+use Rattle.formats.specs.Verdicts.{Verdict, open_list, tells, frame_of, Open, octet_told}
 use Rattle.formats.proofs.Machines.{Breaks, told}
+use Rattle.formats.proofs.Octets.{octets_join}
 use Rattle.ft2_laws.specs.Faults.{faulty}
 use Rattle.ft2_laws.specs.Frames.{check_of, first_octet, marks_of, octet_marks, with_check}
 use Rattle.ft2_laws.specs.Reading.{Place, check, users, after_block, judge, judge_block, next, beginning, ft2_machine}
@@ -16,13 +17,10 @@ use Rattle.ft2_laws.specs.declared.fault.Ft2Fault.TheVariants as fault
 use Rattle.ft2_laws.specs.declared.reading.Block.{Block}
 use Rattle.ft2_laws.specs.declared.reading.Block.TheVariants.{Fixed, Header, Body}
 use Rattle.ft2_laws.specs.declared.reading.Part.TheVariants.{First}
+use Rattle.ft2_laws.specs.declared.settings.Settings.{Settings}
 use Rattle.ft2_laws.proofs.Steps.{Along, Cut, short, whole, octet_along, along_octet, octet_tells, octet_or_breaks, breaks_no_frame, short_no_frame}
 
 -- Numbers that are octets.
-
-pub octets_join : (os ps : List ℕ) → Octets os → Octets ps → Octets (os ++ ps)
-octets_join [] ps a b = b
-octets_join (o ∷ os) ps a b = (a.0, octets_join os ps a.1 b)
 
 pub octets_front : (os ps : List ℕ) → Octets (os ++ ps) → Octets os
 octets_front [] ps a = tt
@@ -34,20 +32,6 @@ octets_back (o ∷ os) ps a = octets_back os ps a.1
 
 pub octets_checked : (os : List ℕ) → Octets os → Octets (with_check os)
 octets_checked os a = octets_join os (check_of os ∷ []) a (check_octet_lt (block_bits os), tt)
-
--- Verdicts apart.
-
-pub open_no_frame : (n : ℕ) → open_list ≡ frame_of n → ⊥
-open_no_frame n e = let z : ◌≡◌ {A = ℕ} 0 1 = cc in omega arith
-
-pub tells_no_frame : (o n : ℕ) → tells o ≡ frame_of n → ⊥
-tells_no_frame o n e = let z : ◌≡◌ {A = ℕ} 0 1 = cc in omega arith
-
-pub fault_no_frame : (c : Cause) (n : ℕ) → fault_of c ≡ frame_of n → ⊥
-fault_no_frame c n e = let z : ◌≡◌ {A = ℕ} 0 1 = cc in omega arith
-
-pub same_frame : (k n : ℕ) → frame_of k ≡ frame_of n → n ≡ k
-same_frame k n e = cc
 
 -- An octet that must be a certain one.
 
@@ -76,49 +60,49 @@ silent_check b os o = go (eqb o (check_of os))
     go true = silent_block b os
     go false = refl
 
-module _ (fixed header : ℕ) where
+module _ (settings : Settings) where
   -- from a verdict on, every octet but the last leaves the frame open, and at the last it is judged w
   abbrev pub Then : Verdict → Place → List ℕ → Verdict → Type 0
   Then v p [] w = v ≡ w
-  Then v p (o ∷ os) w = Open v × Then (judge p o) (next fixed header p o) os w
+  Then v p (o ∷ os) w = Open v × Then (judge p o) (next settings p o) os w
 
   -- the user octets among octets
   abbrev pub told_of : Place → List ℕ → List ℕ
   told_of p [] = []
-  told_of p (o ∷ os) = octet_told (judge p o) ++ told_of (next fixed header p o) os
+  told_of p (o ∷ os) = octet_told (judge p o) ++ told_of (next settings p o) os
 
   -- Octets and their marks.
 
-  pub octets_along : (v : Verdict) (p : Place) (os : List ℕ) (w : Verdict) → Octets os → Then v p os w → Along (ft2_machine fixed header) v (beginning p) (marks_of os) w
+  pub octets_along : (v : Verdict) (p : Place) (os : List ℕ) (w : Verdict) → Octets os → Then v p os w → Along (ft2_machine settings) v (beginning p) (marks_of os) w
   octets_along v p [] w a t = t
   octets_along v p (o ∷ os) w a t =
-      octet_along fixed header p o a.0 (marks_of os) v w t.0 (octets_along (judge p o) (next fixed header p o) os w a.1 t.1)
+      octet_along settings p o a.0 (marks_of os) v w t.0 (octets_along (judge p o) (next settings p o) os w a.1 t.1)
 
-  pub octets_told : (p : Place) (os : List ℕ) → Octets os → told (ft2_machine fixed header) (beginning p) (marks_of os) ≡ told_of p os
+  pub octets_told : (p : Place) (os : List ℕ) → Octets os → told (ft2_machine settings) (beginning p) (marks_of os) ≡ told_of p os
   octets_told p [] a = refl
   octets_told p (o ∷ os) a =
-      octet_tells fixed header p o a.0 (marks_of os) ∙ ap (λ ts. octet_told (judge p o) ++ ts) (octets_told (next fixed header p o) os a.1)
+      octet_tells settings p o a.0 (marks_of os) ∙ ap (λ ts. octet_told (judge p o) ++ ts) (octets_told (next settings p o) os a.1)
 
   -- marks that come to a frame are whole octets
   abbrev pub AsOctets : Verdict → Place → List Mark → ℕ → Type 0
   AsOctets v p ms k = (os : List ℕ) × (Octets os) × (ms ≡ marks_of os) × (Then v p os (frame_of k))
 
-  pub along_octets : {ms : List Mark} → Cut ms → (v : Verdict) (p : Place) (k : ℕ) → Along (ft2_machine fixed header) v (beginning p) ms (frame_of k) → AsOctets v p ms k
+  pub along_octets : {ms : List Mark} → Cut ms → (v : Verdict) (p : Place) (k : ℕ) → Along (ft2_machine settings) v (beginning p) ms (frame_of k) → AsOctets v p ms k
   along_octets (short {ms} l) v p k a = go ms l a
     where
-      go : (ns : List Mark) → length ns < 8 → Along (ft2_machine fixed header) v (beginning p) ns (frame_of k) → AsOctets v p ns k
+      go : (ns : List Mark) → length ns < 8 → Along (ft2_machine settings) v (beginning p) ns (frame_of k) → AsOctets v p ns k
       go [] l a = ([], tt, refl, a)
-      go (n ∷ ns) l a = absurd (short_no_frame fixed header p First n ns v k (omega arith) a)
-  along_octets (whole ms {rest} l c) v p k a = go (octet_or_breaks fixed header p ms rest l) (along_octets c)
+      go (n ∷ ns) l a = absurd (short_no_frame settings p First n ns v k (omega arith) a)
+  along_octets (whole ms {rest} l c) v p k a = go (octet_or_breaks settings p ms rest l) (along_octets c)
     where
-      go : Breaks (ft2_machine fixed header) (beginning p) (ms ++ rest) ⊎ ((o : ℕ) × (o < 256) × (ms ≡ octet_marks o))
-          → ((v : Verdict) (p : Place) (k : ℕ) → Along (ft2_machine fixed header) v (beginning p) rest (frame_of k) → AsOctets v p rest k)
+      go : Breaks (ft2_machine settings) (beginning p) (ms ++ rest) ⊎ ((o : ℕ) × (o < 256) × (ms ≡ octet_marks o))
+          → ((v : Verdict) (p : Place) (k : ℕ) → Along (ft2_machine settings) v (beginning p) rest (frame_of k) → AsOctets v p rest k)
           → AsOctets v p (ms ++ rest) k
-      go (inl b) later = absurd (breaks_no_frame (ft2_machine fixed header) (beginning p) (ms ++ rest) v k b a)
+      go (inl b) later = absurd (breaks_no_frame (ft2_machine settings) (beginning p) (ms ++ rest) v k b a)
       go (inr octet) later =
           let o : ℕ = octet.0 in
-          let here = along_octet fixed header p o octet.1 rest v (frame_of k) (subst (λ x. Along (ft2_machine fixed header) v (beginning p) (x ++ rest) (frame_of k)) octet.2 a) in
-          let (os, are, same, so) = later (judge p o) (next fixed header p o) k here.1 in
+          let here = along_octet settings p o octet.1 rest v (frame_of k) (subst (λ x. Along (ft2_machine settings) v (beginning p) (x ++ rest) (frame_of k)) octet.2 a) in
+          let (os, are, same, so) = later (judge p o) (next settings p o) k here.1 in
           (o ∷ os, (octet.1, are), ap (λ x. x ++ rest) octet.2 ∙ ap (λ x. octet_marks o ++ x) same, (here.0, so))
 
   -- A block and its check octet. `all` are the octets of the block.
@@ -145,7 +129,7 @@ module _ (fixed header : ℕ) where
     pub goes_on : Then (judge_block b (before ++ block)) (after_block b (before ++ block)) rest (frame_of k)
 
   pub then_no_fault : (v : Verdict) (p : Place) (os : List ℕ) (k : ℕ) (f : Ft2Fault) → v ≡ faulty f → Then v p os (frame_of k) → ⊥
-  then_no_fault v p [] k f e t = fault_no_frame _ k (sym e ∙ t)
+  then_no_fault v p [] k f e t = cc
   then_no_fault v p (o ∷ os) k f e t = subst Open e t.0
 
   pub block_only : (n : ℕ) (v : Verdict) (b : Block) (before os : List ℕ) (k : ℕ) → (v ≡ frame_of k → ⊥) → Then v (users b before n) os (frame_of k) → BlockOnly b before n os k
@@ -162,7 +146,7 @@ module _ (fixed header : ℕ) where
         goes_on = subst (λ x. Then (judge_block b x) (after_block b x) os (frame_of k)) (sym (append-nil before)) (subst (λ u. Then u (after_block b before) os (frame_of k)) (due_verdict o (check_of before) (judge_block b before) fault.CheckOctet e) t.1);
       }
   block_only (suc n) v b before [] k none t = absurd (none t)
-  block_only (suc n) v b before (o ∷ os) k none t = go (block_only n (tells o) b (before ++ (o ∷ [])) os k (tells_no_frame o k) t.1)
+  block_only (suc n) v b before (o ∷ os) k none t = go (block_only n (tells o) b (before ++ (o ∷ [])) os k (λ e. cc) t.1)
     where
       go : BlockOnly b (before ++ (o ∷ [])) n os k → BlockOnly b before (suc n) (o ∷ os) k
       go r =

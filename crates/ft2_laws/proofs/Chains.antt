@@ -12,7 +12,9 @@ use Rattle.ft2_laws.specs.declared.kind.Kind.{Kind}
 use Rattle.ft2_laws.specs.declared.kind.Kind.TheVariants as kind
 use Rattle.ft2_laws.specs.declared.reading.Block.{Block}
 use Rattle.ft2_laws.specs.declared.reading.Block.TheVariants.{Fixed, Header, Body}
-use Rattle.ft2_laws.proofs.Blocks.{Then, told_of, block_then, block_told, octets_join, octets_front, octets_back, octets_checked}
+use Rattle.ft2_laws.specs.declared.settings.Settings.{Settings}
+use Rattle.formats.proofs.Octets.{octets_join}
+use Rattle.ft2_laws.proofs.Blocks.{Then, told_of, block_then, block_told, octets_front, octets_back, octets_checked}
 use Rattle.checks.specs.Bits.{block_bits}
 use Rattle.checks.proofs.Octets.{check_octet_lt}
 
@@ -35,21 +37,21 @@ octets_chained us [] a c = octets_checked us a
 octets_chained us (vs ∷ bs) a c =
     octets_join us (check_of us ∷ chained vs bs) a (check_octet_lt (block_bits us), octets_chained vs bs (octets_front vs (joined bs) c) (octets_back vs (joined bs) c))
 
-module _ (fixed header : ℕ) where
-  pub chain_then : (v : Verdict) (b : Block) (us : List ℕ) (bs : List (List ℕ)) (k : ℕ) → Open v → Chain b us bs k → Then fixed header v (users b [] (length us)) (chained us bs) (frame_of k)
-  chain_then v b us [] k a c = block_then fixed header v b [] us us [] (frame_of k) refl a c
+module _ (settings : Settings) where
+  pub chain_then : (v : Verdict) (b : Block) (us : List ℕ) (bs : List (List ℕ)) (k : ℕ) → Open v → Chain b us bs k → Then settings v (users b [] (length us)) (chained us bs) (frame_of k)
+  chain_then v b us [] k a c = block_then settings v b [] us us [] (frame_of k) refl a c
   chain_then v b us (vs ∷ bs) k a c =
       let (d, on, short, later) = c.1 in
       let rest = chain_then open_list d vs bs k tt later in
-      block_then fixed header v b [] us us (chained vs bs) (frame_of k) refl a
-      (subst (λ p. Then fixed header (judge_block b us) p (chained vs bs) (frame_of k)) (sym on) (subst (λ u. Then fixed header u (users d [] (length vs)) (chained vs bs) (frame_of k)) (sym c.0) rest))
+      block_then settings v b [] us us (chained vs bs) (frame_of k) refl a
+      (subst (λ p. Then settings (judge_block b us) p (chained vs bs) (frame_of k)) (sym on) (subst (λ u. Then settings u (users d [] (length vs)) (chained vs bs) (frame_of k)) (sym c.0) rest))
 
-  pub chain_told : (b : Block) (us : List ℕ) (bs : List (List ℕ)) (k : ℕ) → Chain b us bs k → told_of fixed header (users b [] (length us)) (chained us bs) ≡ us ++ joined bs
-  chain_told b us [] k c = block_told fixed header b [] us us [] (check_of us) refl
+  pub chain_told : (b : Block) (us : List ℕ) (bs : List (List ℕ)) (k : ℕ) → Chain b us bs k → told_of settings (users b [] (length us)) (chained us bs) ≡ us ++ joined bs
+  chain_told b us [] k c = block_told settings b [] us us [] (check_of us) refl
   chain_told b us (vs ∷ bs) k c =
       let (d, on, short, later) = c.1 in
-      block_told fixed header b [] us us (chained vs bs) (check_of us) refl
-      ∙ ap (λ p. us ++ told_of fixed header p (chained vs bs)) on ∙ ap (λ ts. us ++ ts) (chain_told d vs bs k later)
+      block_told settings b [] us us (chained vs bs) (check_of us) refl
+      ∙ ap (λ p. us ++ told_of settings p (chained vs bs)) on ∙ ap (λ ts. us ++ ts) (chain_told d vs bs k later)
 
 -- Octets cut into blocks.
 
@@ -111,20 +113,20 @@ fixed_chain (suc f) (o ∷ os) some fits = go (cases_lt 15 (length (o ∷ os))) 
 
 -- Frames as a start octet and a chain.
 
-pub record Framed (fixed header : ℕ) (k : Kind) (os : List ℕ) : Type 0 where
+pub record Framed (settings : Settings) (k : Kind) (os : List ℕ) : Type 0 where
   pub begin : ℕ
   pub block : Block
   pub octets : List ℕ
   pub others : List (List ℕ)
   pub starts : (begin ≡ 0x27) ⊎ (begin ≡ 0x14)
-  pub as_octets : frame_octets header k os ≡ begin ∷ chained octets others
+  pub as_octets : frame_octets settings k os ≡ begin ∷ chained octets others
   pub all : octets ++ joined others ≡ os
-  pub to_block : next fixed header start begin ≡ users block [] (length octets)
+  pub to_block : next settings start begin ≡ users block [] (length octets)
   pub short : length octets ≤ 15
   pub chain : Chain block octets others (kind_number k)
 
-pub framed_fixed : (fixed header : ℕ) (os : List ℕ) → 1 ≤ fixed → length os ≡ fixed → Framed fixed header kind.Fixed os
-framed_fixed fixed header os least count =
+pub framed_fixed : (settings : Settings) (os : List ℕ) → length os ≡ settings.fixed → Framed settings kind.Fixed os
+framed_fixed settings os count =
     let c = fixed_chain (length os) os (omega arith) (omega arith) in
     record {
       begin = 0x27;
@@ -152,24 +154,24 @@ first_taken zero os h = absurd (omega arith)
 first_taken (suc n) [] h = refl
 first_taken (suc n) (o ∷ os) h = refl
 
-pub framed_variable : (fixed header : ℕ) (os : List ℕ) → 1 ≤ header → header ≤ 15 → header ≤ length os → length os ≤ header + 15 → first_octet os ≡ length os - header → Framed fixed header kind.Variable os
-framed_variable fixed header os least most from to first = go (cases_eq (length os) header)
+pub framed_variable : (settings : Settings) (os : List ℕ) → settings.header ≤ length os → length os ≤ settings.header + 15 → first_octet os ≡ length os - settings.header → Framed settings kind.Variable os
+framed_variable settings os from to first = go (cases_eq (length os) settings.header)
   where
     hs : List ℕ
-    hs = take header os
+    hs = take settings.header os
 
     body : List ℕ
-    body = drop header os
+    body = drop settings.header os
 
-    count : length hs ≡ header
-    count = length-take header os ∙ omega arith
+    count : length hs ≡ settings.header
+    count = length-take settings.header os ∙ omega arith
 
     named : first_octet hs ≡ length body
-    named = first_taken header os least ∙ first ∙ sym (length-drop header os)
+    named = first_taken settings.header os settings.limits.2 ∙ first ∙ sym (length-drop settings.header os)
 
-    go : (length os ≡ header) ⊎ (length os ≡ header → ⊥) → Framed fixed header kind.Variable os
+    go : (length os ≡ settings.header) ⊎ (length os ≡ settings.header → ⊥) → Framed settings kind.Variable os
     go (inl e) =
-        let nothing : body ≡ [] = drop_all header os (omega arith) in
+        let nothing : body ≡ [] = drop_all settings.header os (omega arith) in
         record {
           begin = 0x14;
           block = Header;
@@ -177,13 +179,13 @@ framed_variable fixed header os least most from to first = go (cases_eq (length 
           others = [];
           starts = inr refl;
           as_octets = ap (λ x. 0x14 ∷ (with_check hs ++ in_blocks x)) nothing ∙ ap (λ x. 0x14 ∷ x) (append-nil (with_check hs));
-          all = ap (λ x. hs ++ x) (sym nothing) ∙ take-append-drop header os;
+          all = ap (λ x. hs ++ x) (sym nothing) ∙ take-append-drop settings.header os;
           to_block = ap (users Header []) (sym count);
           short = omega (arith, count);
           chain = count_none (first_octet hs) (named ∙ ap length nothing);
         }
     go (inr e) =
-        let more : length body ≡ length os - header = length-drop header os in
+        let more : length body ≡ length os - settings.header = length-drop settings.header os in
         record {
           begin = 0x14;
           block = Header;
@@ -191,7 +193,7 @@ framed_variable fixed header os least most from to first = go (cases_eq (length 
           others = body ∷ [];
           starts = inr refl;
           as_octets = ap (λ x. 0x14 ∷ (with_check hs ++ x)) (one_block (length body) body (omega arith) (omega arith) (omega arith)) ∙ ap (λ x. 0x14 ∷ x) (append_assoc hs (check_of hs ∷ []) (with_check body));
-          all = ap (λ x. hs ++ x) (append-nil body) ∙ take-append-drop header os;
+          all = ap (λ x. hs ++ x) (append-nil body) ∙ take-append-drop settings.header os;
           to_block = ap (users Header []) (sym count);
           short = omega (arith, count);
           chain = (count_some (first_octet hs) (omega (arith, named)) (omega (arith, named)), (Body, ap (users Body []) named, omega arith, refl));

@@ -6,11 +6,12 @@ use Rattle.lines.specs.declared.mark.Mark.{Mark}
 use Rattle.lines.specs.declared.mark.Mark.TheVariants.{Zero, One, Bad}
 use Rattle.formats.specs.Machine.{Machine, Opened}
 use Rattle.formats.specs.Verdicts.{Verdict, open_list, tells, frame_of, fault_of, Open, Fault, octet_told}
-use Rattle.formats.proofs.Machines.{Breaks, Judged, told}
+use Rattle.formats.proofs.Machines.{Breaks, BreaksBy, Judged, told}
 use Rattle.ft2_laws.specs.Frames.{octet_marks}
 use Rattle.ft2_laws.specs.Reading.{Place, beginning, ft2_machine, judge, judge_mark, moved_in, next}
 use Rattle.ft2_laws.specs.declared.reading.Part.{Part}
 use Rattle.ft2_laws.specs.declared.reading.Part.TheVariants.{First, Later}
+use Rattle.ft2_laws.specs.declared.settings.Settings.{Settings}
 use Rattle.ft2_laws.proofs.Bits.{HasBad, moved, moves_in, octet_or_bad}
 
 -- every mark leaves the list open, from a verdict on, and at the last it is judged w
@@ -36,7 +37,7 @@ module _ {S : Type 0} (t : Machine S) where
       fault_no_frame open_list ns f a = f
       fault_no_frame (tells o) ns f a = f
       fault_no_frame (frame_of n) ns f a = f
-      fault_no_frame (fault_of c) [] f a = let z : ◌≡◌ {A = ℕ} 0 1 = cc in omega arith
+      fault_no_frame (fault_of c) [] f a = cc
       fault_no_frame (fault_of c) (n ∷ ns) f a = a.0
   breaks_no_frame s (m ∷ ms) v k (inr b) a = breaks_no_frame (t.after s m) ms (t.says s m) k b.1 a.1
 
@@ -50,10 +51,6 @@ module _ {S : Type 0} (t : Machine S) where
   breaks_not_open s [] b o = b
   breaks_not_open s (m ∷ ms) (inl f) o = fault_not_open (t.says s m) f o.0
   breaks_not_open s (m ∷ ms) (inr b) o = breaks_not_open (t.after s m) ms b.1 o.1
-
--- a fault here, or open here and a break later
-abbrev pub BreaksBy : Verdict → Type 0 → Type 0
-BreaksBy v X = Fault v ⊎ (Open v × X)
 
 good_judged : (v : Verdict) (b : Bool) → judge_mark v (mark_if b) ≡ v
 good_judged v true = refl
@@ -71,39 +68,39 @@ quiet false xs ys e = e
 abbrev came : Place → ℕ → Verdict
 came p o = judge_mark (judge p (moved 0 (octet_marks o))) (mark_if (bit o 0))
 
-module _ (fixed header : ℕ) where
+module _ (settings : Settings) where
   -- reading an octet's marks at a place is judging the octet there
   module _ (p : Place) (o : ℕ) (fits : o < 256) (rest : List Mark) where
     -- the octet that is judged, and the verdict on it
     judged : came p o ≡ judge p o
     judged = good_judged (judge p (moved 0 (octet_marks o))) (bit o 0) ∙ ap (judge p) (moves_in o fits)
 
-    gone : next fixed header p (moved 0 (octet_marks o)) ≡ next fixed header p o
-    gone = ap (next fixed header p) (moves_in o fits)
+    gone : next settings p (moved 0 (octet_marks o)) ≡ next settings p o
+    gone = ap (next settings p) (moves_in o fits)
 
-    pub octet_along : (v w : Verdict) → Open v → Along (ft2_machine fixed header) (judge p o) (beginning (next fixed header p o)) rest w → Along (ft2_machine fixed header) v (beginning p) (octet_marks o ++ rest) w
+    pub octet_along : (v w : Verdict) → Open v → Along (ft2_machine settings) (judge p o) (beginning (next settings p o)) rest w → Along (ft2_machine settings) v (beginning p) (octet_marks o ++ rest) w
     octet_along v w a j =
-        let end = subst (λ q. Along (ft2_machine fixed header) (came p o) (beginning q) rest w) (sym gone) (subst (λ u. Along (ft2_machine fixed header) u (beginning (next fixed header p o)) rest w) (sym judged) j) in
+        let end = subst (λ q. Along (ft2_machine settings) (came p o) (beginning q) rest w) (sym gone) (subst (λ u. Along (ft2_machine settings) u (beginning (next settings p o)) rest w) (sym judged) j) in
         (a, (opens (bit o 7), (opens (bit o 6), (opens (bit o 5), (opens (bit o 4), (opens (bit o 3), (opens (bit o 2), (opens (bit o 1), end))))))))
 
-    pub along_octet : (v w : Verdict) → Along (ft2_machine fixed header) v (beginning p) (octet_marks o ++ rest) w → Open v × Along (ft2_machine fixed header) (judge p o) (beginning (next fixed header p o)) rest w
+    pub along_octet : (v w : Verdict) → Along (ft2_machine settings) v (beginning p) (octet_marks o ++ rest) w → Open v × Along (ft2_machine settings) (judge p o) (beginning (next settings p o)) rest w
     along_octet v w a =
         let end = a.1.1.1.1.1.1.1.1 in
-        (a.0, subst (λ q. Along (ft2_machine fixed header) (judge p o) (beginning q) rest w) gone (subst (λ u. Along (ft2_machine fixed header) u (beginning (next fixed header p (moved 0 (octet_marks o)))) rest w) judged end))
+        (a.0, subst (λ q. Along (ft2_machine settings) (judge p o) (beginning q) rest w) gone (subst (λ u. Along (ft2_machine settings) u (beginning (next settings p (moved 0 (octet_marks o)))) rest w) judged end))
 
-    pub octet_breaks : BreaksBy (judge p o) (Breaks (ft2_machine fixed header) (beginning (next fixed header p o)) rest) → Breaks (ft2_machine fixed header) (beginning p) (octet_marks o ++ rest)
+    pub octet_breaks : BreaksBy (judge p o) (Breaks (ft2_machine settings) (beginning (next settings p o)) rest) → Breaks (ft2_machine settings) (beginning p) (octet_marks o ++ rest)
     octet_breaks b =
-        let end = subst (λ q. BreaksBy (came p o) (Breaks (ft2_machine fixed header) (beginning q) rest)) (sym gone) (subst (λ u. BreaksBy u (Breaks (ft2_machine fixed header) (beginning (next fixed header p o)) rest)) (sym judged) b) in
+        let end = subst (λ q. BreaksBy (came p o) (Breaks (ft2_machine settings) (beginning q) rest)) (sym gone) (subst (λ u. BreaksBy u (Breaks (ft2_machine settings) (beginning (next settings p o)) rest)) (sym judged) b) in
         inr (opens (bit o 7), inr (opens (bit o 6), inr (opens (bit o 5), inr (opens (bit o 4), inr (opens (bit o 3), inr (opens (bit o 2), inr (opens (bit o 1), end)))))))
 
-    pub octet_opened : Opened (ft2_machine fixed header) (beginning p) (octet_marks o ++ rest) → Open (judge p o) × Opened (ft2_machine fixed header) (beginning (next fixed header p o)) rest
+    pub octet_opened : Opened (ft2_machine settings) (beginning p) (octet_marks o ++ rest) → Open (judge p o) × Opened (ft2_machine settings) (beginning (next settings p o)) rest
     octet_opened a =
         let end = a.1.1.1.1.1.1.1 in
-        (subst Open judged end.0, subst (λ q. Opened (ft2_machine fixed header) (beginning q) rest) gone end.1)
+        (subst Open judged end.0, subst (λ q. Opened (ft2_machine settings) (beginning q) rest) gone end.1)
 
-    pub octet_tells : told (ft2_machine fixed header) (beginning p) (octet_marks o ++ rest) ≡ octet_told (judge p o) ++ told (ft2_machine fixed header) (beginning (next fixed header p o)) rest
+    pub octet_tells : told (ft2_machine settings) (beginning p) (octet_marks o ++ rest) ≡ octet_told (judge p o) ++ told (ft2_machine settings) (beginning (next settings p o)) rest
     octet_tells =
-        let end = ap (λ u. octet_told u ++ told (ft2_machine fixed header) (beginning (next fixed header p (moved 0 (octet_marks o)))) rest) judged ∙ ap (λ q. octet_told (judge p o) ++ told (ft2_machine fixed header) (beginning q) rest) gone in
+        let end = ap (λ u. octet_told u ++ told (ft2_machine settings) (beginning (next settings p (moved 0 (octet_marks o)))) rest) judged ∙ ap (λ q. octet_told (judge p o) ++ told (ft2_machine settings) (beginning q) rest) gone in
         quiet (bit o 7) _ _ (quiet (bit o 6) _ _ (quiet (bit o 5) _ _ (quiet (bit o 4) _ _ (quiet (bit o 3) _ _ (quiet (bit o 2) _ _ (quiet (bit o 1) _ _ end))))))
 
   -- how many marks of the octet come after the next one
@@ -112,7 +109,7 @@ module _ (fixed header : ℕ) where
   left_of (Later left o) = left
 
   -- a bad mark in an octet breaks
-  pub bad_breaks : (p : Place) (a : Part) (ms rest : List Mark) → length ms ≤ suc (left_of a) → HasBad ms → Breaks (ft2_machine fixed header) (record { place = p; part = a }) (ms ++ rest)
+  pub bad_breaks : (p : Place) (a : Part) (ms rest : List Mark) → length ms ≤ suc (left_of a) → HasBad ms → Breaks (ft2_machine settings) (record { place = p; part = a }) (ms ++ rest)
   bad_breaks p a [] rest l b = absurd b
   bad_breaks p First (Bad ∷ ms) rest l b = inl tt
   bad_breaks p (Later zero o) (Bad ∷ ms) rest l b = inl tt
@@ -127,16 +124,16 @@ module _ (fixed header : ℕ) where
   bad_breaks p (Later (suc n) o) (One ∷ ms) rest l b = inr (tt, bad_breaks p (Later n (moved_in o One)) ms rest (omega arith) b)
 
   -- eight marks break, or are an octet
-  pub octet_or_breaks : (p : Place) (ms rest : List Mark) → length ms ≡ 8 → Breaks (ft2_machine fixed header) (beginning p) (ms ++ rest) ⊎ ((o : ℕ) × (o < 256) × (ms ≡ octet_marks o))
+  pub octet_or_breaks : (p : Place) (ms rest : List Mark) → length ms ≡ 8 → Breaks (ft2_machine settings) (beginning p) (ms ++ rest) ⊎ ((o : ℕ) × (o < 256) × (ms ≡ octet_marks o))
   octet_or_breaks p ms rest l = elim (octet_or_bad ms l) [ inl o ↦ inr o | inr b ↦ inl (bad_breaks p First ms rest (omega arith) b) ]
 
   mark_no_frame : (m : Mark) (k : ℕ) → judge_mark open_list m ≡ frame_of k → ⊥
-  mark_no_frame Zero k e = let z : ◌≡◌ {A = ℕ} 0 1 = cc in omega arith
-  mark_no_frame One k e = let z : ◌≡◌ {A = ℕ} 0 1 = cc in omega arith
-  mark_no_frame Bad k e = let z : ◌≡◌ {A = ℕ} 0 1 = cc in omega arith
+  mark_no_frame Zero k e = cc
+  mark_no_frame One k e = cc
+  mark_no_frame Bad k e = cc
 
   -- fewer than eight marks come to no frame, and tell nothing
-  pub short_no_frame : (p : Place) (a : Part) (m : Mark) (ms : List Mark) (v : Verdict) (k : ℕ) → length (m ∷ ms) ≤ left_of a → Along (ft2_machine fixed header) v (record { place = p; part = a }) (m ∷ ms) (frame_of k) → ⊥
+  pub short_no_frame : (p : Place) (a : Part) (m : Mark) (ms : List Mark) (v : Verdict) (k : ℕ) → length (m ∷ ms) ≤ left_of a → Along (ft2_machine settings) v (record { place = p; part = a }) (m ∷ ms) (frame_of k) → ⊥
   short_no_frame p First m [] v k l a = mark_no_frame m k a.1
   short_no_frame p First m (n ∷ ms) v k l a = short_no_frame p (Later 6 (moved_in 0 m)) n ms (judge_mark open_list m) k (omega arith) a.1
   short_no_frame p (Later zero o) m ms v k l a = absurd (omega arith)
@@ -148,7 +145,7 @@ module _ (fixed header : ℕ) where
   silent One xs e = e
   silent Bad xs e = e
 
-  pub short_tells : (p : Place) (a : Part) (ms : List Mark) → length ms ≤ left_of a → told (ft2_machine fixed header) (record { place = p; part = a }) ms ≡ []
+  pub short_tells : (p : Place) (a : Part) (ms : List Mark) → length ms ≤ left_of a → told (ft2_machine settings) (record { place = p; part = a }) ms ≡ []
   short_tells p a [] l = refl
   short_tells p First (m ∷ ms) l = silent m _ (short_tells p (Later 6 (moved_in 0 m)) ms (omega arith))
   short_tells p (Later zero o) (m ∷ ms) l = absurd (omega arith)

@@ -6,6 +6,7 @@ use Rattle.lines.specs.Characters.{mark_if}
 use Rattle.lines.specs.declared.mark.Mark.{Mark}
 use Rattle.ft2_laws.specs.declared.kind.Kind.{Kind}
 use Rattle.ft2_laws.specs.declared.kind.Kind.TheVariants.{Fixed, Variable}
+use Rattle.ft2_laws.specs.declared.settings.Settings.{Settings}
 
 abbrev pub kind_number : Kind → ℕ
 kind_number Fixed = 1
@@ -19,27 +20,27 @@ abbrev pub is_kind : Option Kind → Bool
 is_kind None = false
 is_kind (Some k) = true
 
--- whether so many user octets suit a kind, where the fixed length and the header length are given
-abbrev pub count_suits : ℕ → ℕ → Kind → ℕ → Bool
-count_suits fixed header Fixed n = n == fixed
-count_suits fixed header Variable n = nat_le header n && nat_le n (header + 15)
+-- whether so many user octets suit a kind
+abbrev pub count_suits : Settings → Kind → ℕ → Bool
+count_suits settings Fixed n = n == settings.fixed
+count_suits settings Variable n = nat_le settings.header n && nat_le n (settings.header + 15)
 
-abbrev pub suits_kind : ℕ → ℕ → Option Kind → ℕ → Bool
-suits_kind fixed header None n = false
-suits_kind fixed header (Some k) n = count_suits fixed header k n
+abbrev pub suits_kind : Settings → Option Kind → ℕ → Bool
+suits_kind settings None n = false
+suits_kind settings (Some k) n = count_suits settings k n
 
 abbrev pub first_octet : List ℕ → ℕ
 first_octet [] = 0
 first_octet (o ∷ os) = o
 
 -- whether the first octet suits the others: in a variable frame it is the octet count less the header length
-abbrev pub first_suits : ℕ → Kind → List ℕ → Bool
-first_suits header Fixed os = true
-first_suits header Variable os = first_octet os == length os - header
+abbrev pub first_suits : Settings → Kind → List ℕ → Bool
+first_suits settings Fixed os = true
+first_suits settings Variable os = first_octet os == length os - settings.header
 
-abbrev pub headed_kind : ℕ → Option Kind → List ℕ → Bool
-headed_kind header None os = false
-headed_kind header (Some k) os = first_suits header k os
+abbrev pub headed_kind : Settings → Option Kind → List ℕ → Bool
+headed_kind settings None os = false
+headed_kind settings (Some k) os = first_suits settings k os
 
 -- the check octet of a block
 abbrev pub check_of : List ℕ → ℕ
@@ -60,9 +61,9 @@ abbrev pub in_blocks : List ℕ → List ℕ
 in_blocks os = cut_in (length os) os
 
 -- the octets of a frame, by its kind and user octets; the start octet belongs to no block
-abbrev pub frame_octets : ℕ → Kind → List ℕ → List ℕ
-frame_octets header Fixed os = 0x27 ∷ in_blocks os
-frame_octets header Variable os = 0x14 ∷ (with_check (take header os) ++ in_blocks (drop header os))
+abbrev pub frame_octets : Settings → Kind → List ℕ → List ℕ
+frame_octets settings Fixed os = 0x27 ∷ in_blocks os
+frame_octets settings Variable os = 0x14 ∷ (with_check (take settings.header os) ++ in_blocks (drop settings.header os))
 
 -- the eight marks of an octet, highest bit first
 abbrev pub octet_marks : ℕ → List Mark
@@ -74,10 +75,10 @@ marks_of [] = []
 marks_of (o ∷ os) = octet_marks o ++ marks_of os
 
 -- the marks of a frame
-abbrev pub frame_marks : ℕ → Option Kind → List ℕ → List Mark
-frame_marks header None os = []
-frame_marks header (Some k) os = marks_of (frame_octets header k os)
+abbrev pub frame_marks : Settings → Option Kind → List ℕ → List Mark
+frame_marks settings None os = []
+frame_marks settings (Some k) os = marks_of (frame_octets settings k os)
 
 -- the marks of a quiet gap: eight for each octet of the longest frame
-abbrev pub gap_marks : ℕ → ℕ → ℕ
-gap_marks fixed header = 8 * (max fixed (header + 15) + 3)
+abbrev pub gap_marks : Settings → ℕ
+gap_marks settings = 8 * (max settings.fixed (settings.header + 15) + 3)

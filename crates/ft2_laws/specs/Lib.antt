@@ -1,4 +1,5 @@
 pub mod Faults
+pub mod Limits
 pub mod Frames
 pub mod Reading
 pub mod Worked

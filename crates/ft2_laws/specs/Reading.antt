@@ -14,6 +14,7 @@ use Rattle.ft2_laws.specs.declared.reading.Block.{Block}
 use Rattle.ft2_laws.specs.declared.reading.Block.TheVariants.{Fixed, Header, Body}
 use Rattle.ft2_laws.specs.declared.reading.Part.{Part}
 use Rattle.ft2_laws.specs.declared.reading.Part.TheVariants.{First, Later}
+use Rattle.ft2_laws.specs.declared.settings.Settings.{Settings}
 
 -- Octets in a frame.
 
@@ -57,11 +58,11 @@ after_block (Fixed left) os = fixed_block left
 after_block Header os = users Body [] (first_octet os)
 after_block Body os = check Body os
 
--- the position behind an octet, where the fixed length and the header length are given
-abbrev pub next : ℕ → ℕ → Place → ℕ → Place
-next fixed header start o = cond (o == 0x27) (fixed_block fixed) (users Header [] header)
-next fixed header (user b os left) o = users b (os ++ (o ∷ [])) left
-next fixed header (check b os) o = after_block b os
+-- the position behind an octet
+abbrev pub next : Settings → Place → ℕ → Place
+next settings start o = cond (o == 0x27) (fixed_block settings.fixed) (users Header [] settings.header)
+next settings (user b os left) o = users b (os ++ (o ∷ [])) left
+next settings (check b os) o = after_block b os
 
 -- Marks in an octet.
 
@@ -82,28 +83,28 @@ octet_of a b c d e f g h = 128 * value a + 64 * value b + 32 * value c + 16 * va
 
 -- A list of marks from the octet at a position on: it is cut into octets of eight marks. Its last mark is bad, or open
 -- inside an octet, or the last of an octet, which is then judged by its position in the frame.
-abbrev pub judge_list : ℕ → ℕ → Place → List Mark → Verdict
-judge_list fixed header p [] = open_list
-judge_list fixed header p (a ∷ []) = judge_mark open_list a
-judge_list fixed header p (a ∷ (b ∷ [])) = judge_mark open_list b
-judge_list fixed header p (a ∷ (b ∷ (c ∷ []))) = judge_mark open_list c
-judge_list fixed header p (a ∷ (b ∷ (c ∷ (d ∷ [])))) = judge_mark open_list d
-judge_list fixed header p (a ∷ (b ∷ (c ∷ (d ∷ (e ∷ []))))) = judge_mark open_list e
-judge_list fixed header p (a ∷ (b ∷ (c ∷ (d ∷ (e ∷ (f ∷ [])))))) = judge_mark open_list f
-judge_list fixed header p (a ∷ (b ∷ (c ∷ (d ∷ (e ∷ (f ∷ (g ∷ []))))))) = judge_mark open_list g
-judge_list fixed header p (a ∷ (b ∷ (c ∷ (d ∷ (e ∷ (f ∷ (g ∷ (h ∷ [])))))))) = judge_mark (judge p (octet_of a b c d e f g h)) h
-judge_list fixed header p (a ∷ (b ∷ (c ∷ (d ∷ (e ∷ (f ∷ (g ∷ (h ∷ (n ∷ ms))))))))) = judge_list fixed header (next fixed header p (octet_of a b c d e f g h)) (n ∷ ms)
+abbrev pub judge_list : Settings → Place → List Mark → Verdict
+judge_list settings p [] = open_list
+judge_list settings p (a ∷ []) = judge_mark open_list a
+judge_list settings p (a ∷ (b ∷ [])) = judge_mark open_list b
+judge_list settings p (a ∷ (b ∷ (c ∷ []))) = judge_mark open_list c
+judge_list settings p (a ∷ (b ∷ (c ∷ (d ∷ [])))) = judge_mark open_list d
+judge_list settings p (a ∷ (b ∷ (c ∷ (d ∷ (e ∷ []))))) = judge_mark open_list e
+judge_list settings p (a ∷ (b ∷ (c ∷ (d ∷ (e ∷ (f ∷ [])))))) = judge_mark open_list f
+judge_list settings p (a ∷ (b ∷ (c ∷ (d ∷ (e ∷ (f ∷ (g ∷ []))))))) = judge_mark open_list g
+judge_list settings p (a ∷ (b ∷ (c ∷ (d ∷ (e ∷ (f ∷ (g ∷ (h ∷ [])))))))) = judge_mark (judge p (octet_of a b c d e f g h)) h
+judge_list settings p (a ∷ (b ∷ (c ∷ (d ∷ (e ∷ (f ∷ (g ∷ (h ∷ (n ∷ ms))))))))) = judge_list settings (next settings p (octet_of a b c d e f g h)) (n ∷ ms)
 
--- FT2 at a fixed length and a header length
-abbrev pub ft2_model : ℕ → ℕ → Model
-ft2_model fixed header = record {
-  gap = gap_marks fixed header;
+-- FT2 at its settings
+abbrev pub ft2_model : Settings → Model
+ft2_model settings = record {
+  gap = gap_marks settings;
   distance = 4;
-  verdict = judge_list fixed header start;
+  verdict = judge_list settings start;
   known = λ kind. is_kind (kind_of kind);
-  suits = λ kind n. suits_kind fixed header (kind_of kind) n;
-  headed = λ kind octets. headed_kind header (kind_of kind) octets;
-  frame = λ kind octets. frame_marks header (kind_of kind) octets;
+  suits = λ kind n. suits_kind settings (kind_of kind) n;
+  headed = λ kind octets. headed_kind settings (kind_of kind) octets;
+  frame = λ kind octets. frame_marks settings (kind_of kind) octets;
 }
 
 -- The same mark by mark.
@@ -122,17 +123,17 @@ says_at p First m = judge_mark open_list m
 says_at p (Later zero o) m = judge_mark (judge p (moved_in o m)) m
 says_at p (Later (suc left) o) m = judge_mark open_list m
 
-abbrev pub after_at : ℕ → ℕ → Place → Part → Mark → Reading
-after_at fixed header p First m = record { place = p; part = Later 6 (moved_in 0 m) }
-after_at fixed header p (Later zero o) m = record { place = next fixed header p (moved_in o m); part = First }
-after_at fixed header p (Later (suc left) o) m = record { place = p; part = Later left (moved_in o m) }
+abbrev pub after_at : Settings → Place → Part → Mark → Reading
+after_at settings p First m = record { place = p; part = Later 6 (moved_in 0 m) }
+after_at settings p (Later zero o) m = record { place = next settings p (moved_in o m); part = First }
+after_at settings p (Later (suc left) o) m = record { place = p; part = Later left (moved_in o m) }
 
 abbrev pub beginning : Place → Reading
 beginning p = record { place = p; part = First }
 
-abbrev pub ft2_machine : ℕ → ℕ → Machine Reading
-ft2_machine fixed header = record {
+abbrev pub ft2_machine : Settings → Machine Reading
+ft2_machine settings = record {
   start = beginning start;
   says = λ s m. says_at s.place s.part m;
-  after = λ s m. after_at fixed header s.place s.part m;
+  after = λ s m. after_at settings s.place s.part m;
 }

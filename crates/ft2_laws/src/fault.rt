@@ -25,6 +25,7 @@ impl From<LineFault> for Ft2Fault {
     }
 }
 
+// told by cases: one that holds the fault of a layer below has no number of its own
 impl Fault for Ft2Fault {
     ghost cause = { ft2_cause };
 

@@ -5,3 +5,4 @@
 pub mod fault;
 pub mod kind;
 pub mod reading;
+pub mod settings;

@@ -106,4 +106,4 @@ module _ (m : Model) where
   pub start_altered : {a b : Hearer} {ms ns : List Mark} {h : List Entry} → Trace m a ms h b ns → a.stage ≡ ready → (rest more : List Mark) → ms ≡ Zero ∷ (rest ++ more) → FaultAlong m.verdict [] (Zero ∷ rest) → 1 ≤ m.gap → (Quiet m.gap rest → ⊥) → NothingHandedOver (Zero ∷ rest) h
   start_altered stop = λ e rest more same f least quiet. tt
   start_altered {a} (mark {x = x} {ms = ms} {h = h} free_now l t) = λ e rest more same f least quiet. first_mark a x ms rest more h e same f least quiet (unfooled t)
-  start_altered (free kind count held t) = λ e rest more same f least quiet. let z : ◌≡◌ {A = ℕ} 0 1 = cc in absurd (omega arith)
+  start_altered (free kind count held t) = λ e rest more same f least quiet. cc

@@ -83,7 +83,7 @@ module _ (m : Model) (laws : Laws m) (kind : ℕ) (octets : List ℕ) where
   pub along_frame : {a b : Hearer} {ms ns : List Mark} {h : List Entry} → Trace m a ms h b ns → Along a ms h
   along_frame stop = λ done rest more same on begins p. tt
   along_frame {a} (mark {x = x} {ms = ms} {h = h} f l t) = along_mark a x ms h l (along_frame t)
-  along_frame (free k c held t) = λ done rest more same on begins p. let z : ◌≡◌ {A = ℕ} 0 1 = cc in absurd (omega arith)
+  along_frame (free k c held t) = λ done rest more same on begins p. cc
 
   module _ (rest : List Mark) (whole : Part [] (Zero ∷ rest) []) where
     -- from a receiver that is ready, or will be once it is released

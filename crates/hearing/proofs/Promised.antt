@@ -13,6 +13,7 @@ use Rattle.hearing.specs.declared.answer.Ending.TheVariants as ending
 use Rattle.hearing.specs.declared.answer.Heard.{Heard}
 use Rattle.hearing.specs.declared.answer.Standing.{Standing}
 use Rattle.hearing.specs.declared.answer.State.TheVariants as state
+use Rattle.hearing.specs.declared.fault.ReceiverFault.{ReceiverFault}
 use Rattle.hearing.specs.declared.refusal.ReceiverRefusal.{ReceiverRefusal}
 use Rattle.hearing.specs.declared.refusal.ReceiverRefusal.TheVariants.{ShortBuffer, Holding, NotHolding}
 use Rattle.hearing.proofs.Alterations.{start_altered}
@@ -50,7 +51,7 @@ took n budget before after [] ending.Spent counted taken over quietly b l = omeg
 took n budget before after [] ending.Empty counted taken over quietly b l = let none = ap length (taken ∙ over.1) in omega arith
 
 module _ {R L E : Type 0} (cause : E → Cause) (at : R → List ℕ → Hearer → Type 0) (model : R → Model) (standing : R → Standing) (pending : L → List Mark) (tied : (r : R) (buffer : List ℕ) (a : Hearer) → at r buffer a → Tied (model r) (standing r) buffer a) (lawful : (r : R) → Laws (model r)) where
-  listens_on : (budget : ℕ) (r r' : R) (l l' : L) (buffer buffer' : List ℕ) (answer : Result (Heard E) ReceiverRefusal) (a : Hearer) → at r buffer a → Listened cause at model standing pending budget r r' l l' buffer buffer' answer → 255 ≤ length buffer → 1 ≤ budget → 1 ≤ length (pending l) → ((standing r).state ≡ state.Holding → ⊥) → TookAMark answer
+  listens_on : (budget : ℕ) (r r' : R) (l l' : L) (buffer buffer' : List ℕ) (answer : Result (Heard (ReceiverFault E)) ReceiverRefusal) (a : Hearer) → at r buffer a → Listened cause at model standing pending budget r r' l l' buffer buffer' answer → 255 ≤ length buffer → 1 ≤ budget → 1 ≤ length (pending l) → ((standing r).state ≡ state.Holding → ⊥) → TookAMark answer
   listens_on budget r r' l l' buffer buffer' (Ok heard) a at_a p room b some not_held =
       let listens = p.2 in
       let (c, at_c, brings) = listens.brought a at_a in

@@ -1,5 +1,5 @@
 -- A chain of calls, mark by mark.
-use Rattle.std.proofs.Common.{◌≡◌, ℕ, suc, ◌≤◌, Bool, true, false, cond, ltb, List, [], ◌∷◌, ◌++◌, length, take, Ok, Err, Result, sym, refl, ap, ◌∙◌, subst, inl, inr, arith}
+use Rattle.std.proofs.Common.{◌≡◌, ℕ, suc, ◌≤◌, Bool, true, false, cond, ltb, List, [], ◌∷◌, ◌++◌, length, take, Ok, Err, Result, sym, refl, ap, ◌∙◌, subst, inl, inr}
 use Rattle.std.proofs.lemmas.List.{length-set}
 use Rattle.lines.specs.declared.mark.Mark.{Mark}
 use Rattle.lines.specs.declared.mark.Mark.TheVariants.{Zero, One, Bad}
@@ -13,6 +13,7 @@ use Rattle.hearing.specs.declared.answer.Ending.TheVariants as ending
 use Rattle.hearing.specs.declared.answer.Heard.{Heard}
 use Rattle.hearing.specs.declared.answer.Standing.{Standing}
 use Rattle.hearing.specs.declared.answer.State.TheVariants as state
+use Rattle.hearing.specs.declared.fault.ReceiverFault.{ReceiverFault}
 use Rattle.hearing.specs.declared.refusal.ReceiverRefusal.{ReceiverRefusal}
 use Rattle.hearing.specs.declared.refusal.ReceiverRefusal.TheVariants.{ShortBuffer, Holding, NotHolding}
 
@@ -66,7 +67,7 @@ resting_free false = tt
 comes_free : (gap run : ℕ) (buffer : List ℕ) (place count : ℕ) (longer : List Mark) (v : Verdict) → (comes_to gap run buffer place count longer v).event ≡ nothing → Free (comes_to gap run buffer place count longer v).hearer.stage
 comes_free gap run buffer place count longer open_list e = tt
 comes_free gap run buffer place count longer (tells octet) e = tt
-comes_free gap run buffer place count longer (frame_of kind) e = let z : ◌≡◌ {A = ℕ} 0 1 = cc in absurd (omega arith)
+comes_free gap run buffer place count longer (frame_of kind) e = cc
 comes_free gap run buffer place count longer (fault_of cause) e = resting_free (ltb run gap)
 
 by_stage_free : (m : Model) (s : Stage) (run : ℕ) (buffer : List ℕ) (x : Mark) → Free s → (by_stage m s run buffer x).event ≡ nothing → Free (by_stage m s run buffer x).hearer.stage
@@ -81,7 +82,7 @@ pub hears_free : (m : Model) (a : Hearer) (x : Mark) → Free a.stage → (hears
 hears_free m a x f e = by_stage_free m a.stage _ a.buffer x f e
 
 -- the entry of the mark that ended a listen
-loud : {E : Type 0} (cause : E → Cause) (s : Step) (end : Ending E) → Ends cause s.event end → entry s ≡ last_note end s.hearer.buffer
+loud : {E : Type 0} (cause : E → Cause) (s : Step) (end : Ending (ReceiverFault E)) → Ends cause s.event end → entry s ≡ last_note end s.hearer.buffer
 loud cause s (ending.Frame kind octets) e = ap (λ v. note v s.hearer.buffer) e
 loud cause s (ending.Fault why) e = ap (λ v. note v s.hearer.buffer) e
 loud cause s ending.Spent e = absurd e
@@ -93,7 +94,7 @@ silent (ending.Fault why) buffer q = absurd q
 silent ending.Spent buffer q = refl
 silent ending.Empty buffer q = refl
 
-module _ {E : Type 0} (cause : E → Cause) (m : Model) (after : List Mark) (end : Ending E) (b : Hearer) (h : List Entry) (c : Hearer) (ns : List Mark) (t : Trace m b after h c ns) where
+module _ {E : Type 0} (cause : E → Cause) (m : Model) (after : List Mark) (end : Ending (ReceiverFault E)) (b : Hearer) (h : List Entry) (c : Hearer) (ns : List Mark) (t : Trace m b after h c ns) where
   -- the marks of one listen, and what follows
   pub along : (a : Hearer) (marks : List Mark) → Brings cause m a marks end b → Free a.stage → 255 ≤ length a.buffer → Trace m a (marks ++ after) (notes (length marks) end b.buffer ++ h) c ns
   along a [] p f l = subst (λ s. Trace m s after h c ns) p.1 t
@@ -108,7 +109,7 @@ module _ {E : Type 0} (cause : E → Cause) (m : Model) (after : List Mark) (end
   along a (x ∷ (y ∷ ys)) (inl p) f l =
       let rest = along (hears m a x).hearer (y ∷ ys) p.1 (hears_free m a x f p.0) (subst (λ n. 255 ≤ n) (sym (hears_length m a x)) l) in
       subst (λ e. Trace m a (x ∷ (y ∷ (ys ++ after))) (e ∷ (notes (suc (length ys)) end b.buffer ++ h)) c ns) (ap (λ v. note v (hears m a x).hearer.buffer) p.0) (mark f l rest)
-  along a (x ∷ (y ∷ ys)) (inr p) f l = let e = p.1 in let z : ◌≡◌ {A = ℕ} 0 1 = cc in absurd (omega arith)
+  along a (x ∷ (y ∷ ys)) (inr p) f l = let e = p.1 in cc
 
 free_of : (s : Stage) → (state_of s ≡ state.Holding → ⊥) → Free s
 free_of waiting n = tt
@@ -117,16 +118,16 @@ free_of (within list) n = tt
 free_of (holding kind octets) n = n refl
 
 held_of : (s : Stage) → state_of s ≡ state.Holding → (kind : ℕ) × (count : ℕ) × (s ≡ holding kind count)
-held_of waiting e = let z : ◌≡◌ {A = ℕ} 0 1 = cc in absurd (omega arith)
-held_of ready e = let z : ◌≡◌ {A = ℕ} 0 1 = cc in absurd (omega arith)
-held_of (within list) e = let z : ◌≡◌ {A = ℕ} 0 1 = cc in absurd (omega arith)
+held_of waiting e = cc
+held_of ready e = cc
+held_of (within list) e = cc
 held_of (holding kind octets) e = (kind, octets, refl)
 
 pub ready_of : (s : Stage) → state_of s ≡ state.Ready → s ≡ ready
-ready_of waiting e = let z : ◌≡◌ {A = ℕ} 0 1 = cc in absurd (omega arith)
+ready_of waiting e = cc
 ready_of ready e = refl
-ready_of (within list) e = let z : ◌≡◌ {A = ℕ} 0 1 = cc in absurd (omega arith)
-ready_of (holding kind octets) e = let z : ◌≡◌ {A = ℕ} 0 1 = cc in absurd (omega arith)
+ready_of (within list) e = cc
+ready_of (holding kind octets) e = cc
 
 -- what a receiver has of a hearer that it is at
 pub record Tied (m : Model) (standing : Standing) (buffer : List ℕ) (a : Hearer) : Type 0 where
@@ -150,7 +151,7 @@ module _ {R L E : Type 0} (cause : E → Cause) (at : R → List ℕ → Hearer 
   refused r r' l l' buffer buffer' h v u go =
       subst (λ q. Onward q l buffer h v) u.0 (subst (λ q. Onward r' q buffer h v) u.1 (subst (λ q. Onward r' l' q h v) u.2 go))
 
-  listening : (budget : ℕ) (r r' : R) (l l' : L) (buffer buffer' : List ℕ) (answer : Result (Heard E) ReceiverRefusal) (h : List Entry) (v : World R L) → Listened cause at model standing pending budget r r' l l' buffer buffer' answer → Onward r' l' buffer' h v → Onward r l buffer (noted answer buffer' ++ h) v
+  listening : (budget : ℕ) (r r' : R) (l l' : L) (buffer buffer' : List ℕ) (answer : Result (Heard (ReceiverFault E)) ReceiverRefusal) (h : List Entry) (v : World R L) → Listened cause at model standing pending budget r r' l l' buffer buffer' answer → Onward r' l' buffer' h v → Onward r l buffer (noted answer buffer' ++ h) v
   listening budget r r' l l' buffer buffer' (Ok heard) h v p go = λ m e a at_a.
       let (room, not_held, listens) = p in
       let known = tied r buffer a at_a in

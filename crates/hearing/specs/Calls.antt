@@ -12,6 +12,7 @@ use Rattle.hearing.specs.declared.answer.Ending.TheVariants as ending
 use Rattle.hearing.specs.declared.answer.Heard.{Heard}
 use Rattle.hearing.specs.declared.answer.Standing.{Standing}
 use Rattle.hearing.specs.declared.answer.State.TheVariants as state
+use Rattle.hearing.specs.declared.fault.ReceiverFault.{ReceiverFault}
 use Rattle.hearing.specs.declared.refusal.ReceiverRefusal.{ReceiverRefusal}
 use Rattle.hearing.specs.declared.refusal.ReceiverRefusal.TheVariants.{ShortBuffer, Holding, NotHolding}
 
@@ -21,7 +22,7 @@ pub record Begun {R : Type 0} (at : R → List ℕ → Hearer → Type 0) (stand
   pub begins : (buffer : List ℕ) → at r buffer (record { stage = waiting; run = 0; buffer = buffer })
 
 -- the event that ends a listen: a frame with kind and count, or a fault with cause and place
-abbrev pub Ends : {E : Type 0} → (E → Cause) → Event → Ending E → Type 0
+abbrev pub Ends : {E : Type 0} → (E → Cause) → Event → Ending (ReceiverFault E) → Type 0
 Ends cause event (ending.Frame kind octets) = event ≡ rules.frame kind octets
 Ends cause event (ending.Fault why) = event ≡ rules.fault (cause why.fault) why.place
 Ends cause event ending.Spent = ⊥
@@ -35,7 +36,7 @@ Quietly ending.Spent = Unit {0}
 Quietly ending.Empty = Unit {0}
 
 -- from hearer to hearer along the marks taken: none of them brings anything, but for the last where a frame or a fault ends the listen
-abbrev pub Brings : {E : Type 0} → (E → Cause) → Model → Hearer → List Mark → Ending E → Hearer → Type 0
+abbrev pub Brings : {E : Type 0} → (E → Cause) → Model → Hearer → List Mark → Ending (ReceiverFault E) → Hearer → Type 0
 Brings cause m a [] end b = Quietly end × (b ≡ a)
 Brings cause m a (x ∷ xs) end b = (((hears m a x).event ≡ nothing) × Brings cause m (hears m a x).hearer xs end b) ⊎ (Ends cause (hears m a x).event end × (xs ≡ []) × (b ≡ (hears m a x).hearer))
 
@@ -47,7 +48,7 @@ Over budget count after ending.Spent = count ≡ budget
 Over budget count after ending.Empty = (count < budget) × (after ≡ [])
 
 -- A listen that is not refused: which marks it takes from the line, their count, and what they bring.
-pub record Listens {R E : Type 0} (cause : E → Cause) (at : R → List ℕ → Hearer → Type 0) (model : R → Model) (budget : ℕ) (r r' : R) (before after : List Mark) (buffer buffer' : List ℕ) (heard : Heard E) : Type 0 where
+pub record Listens {R E : Type 0} (cause : E → Cause) (at : R → List ℕ → Hearer → Type 0) (model : R → Model) (budget : ℕ) (r r' : R) (before after : List Mark) (buffer buffer' : List ℕ) (heard : Heard (ReceiverFault E)) : Type 0 where
   pub marks : List Mark
   pub taken : before ≡ marks ++ after
   pub counted : heard.taken ≡ length marks
@@ -61,7 +62,7 @@ abbrev pub Unchanged : {R L : Type 0} → R → R → L → L → List ℕ → L
 Unchanged r r' l l' buffer buffer' = (r' ≡ r) × (l' ≡ l) × (buffer' ≡ buffer)
 
 -- listen
-abbrev pub Listened : {R L E : Type 0} → (E → Cause) → (R → List ℕ → Hearer → Type 0) → (R → Model) → (R → Standing) → (L → List Mark) → ℕ → R → R → L → L → List ℕ → List ℕ → Result (Heard E) ReceiverRefusal → Type 0
+abbrev pub Listened : {R L E : Type 0} → (E → Cause) → (R → List ℕ → Hearer → Type 0) → (R → Model) → (R → Standing) → (L → List Mark) → ℕ → R → R → L → L → List ℕ → List ℕ → Result (Heard (ReceiverFault E)) ReceiverRefusal → Type 0
 Listened cause at model standing pending budget r r' l l' buffer buffer' (Ok heard) =
     (255 ≤ length buffer) × ((standing r).state ≢ state.Holding) × Listens cause at model budget r r' (pending l) (pending l') buffer buffer' heard
 Listened cause at model standing pending budget r r' l l' buffer buffer' (Err ShortBuffer) = (length buffer < 255) × Unchanged r r' l l' buffer buffer'

@@ -1,4 +1,6 @@
 pub mod Numbers
+pub mod Texts
 pub mod Rules
 pub mod Calls
+pub mod Told
 pub mod Promise

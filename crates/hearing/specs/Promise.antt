@@ -12,6 +12,7 @@ use Rattle.hearing.specs.declared.answer.Ending.TheVariants as ending
 use Rattle.hearing.specs.declared.answer.Heard.{Heard}
 use Rattle.hearing.specs.declared.answer.Standing.{Standing}
 use Rattle.hearing.specs.declared.answer.State.TheVariants as state
+use Rattle.hearing.specs.declared.fault.ReceiverFault.{ReceiverFault}
 use Rattle.hearing.specs.declared.refusal.ReceiverRefusal.{ReceiverRefusal}
 
 -- one receiver, its line and its frame buffer
@@ -45,7 +46,7 @@ noted (Err refusal) buffer = []
 -- Calls one after the other, refused or not, with an entry for each mark taken.
 pub data Chain {R L E : Type 0} (cause : E → Cause) (at : R → List ℕ → Hearer → Type 0) (model : R → Model) (standing : R → Standing) (pending : L → List Mark) : World R L → List Entry → World R L → Type 0 where
   none : {w : World R L} → Chain cause at model standing pending w [] w
-  listen : {w v : World R L} {h : List Entry} (budget : ℕ) (r : R) (l : L) (buffer : List ℕ) (answer : Result (Heard E) ReceiverRefusal)
+  listen : {w v : World R L} {h : List Entry} (budget : ℕ) (r : R) (l : L) (buffer : List ℕ) (answer : Result (Heard (ReceiverFault E)) ReceiverRefusal)
       → Listened cause at model standing pending budget w.receiver r w.line l w.buffer buffer answer
       → Chain cause at model standing pending (record { receiver = r; line = l; buffer = buffer }) h v
       → Chain cause at model standing pending w (noted answer buffer ++ h) v
@@ -112,7 +113,7 @@ pub record Promised {R L E : Type 0} (cause : E → Cause) (at : R → List ℕ 
       → (h : List Entry) (v : World R L) → Chain cause at model standing pending w h v
       → NothingHandedOver altered h
   -- while it holds no frame, a listen takes a mark if it may and there is one
-  pub listens_on : (budget : ℕ) (r : R) (l : L) (buffer : List ℕ) (answer : Result (Heard E) ReceiverRefusal)
+  pub listens_on : (budget : ℕ) (r : R) (l : L) (buffer : List ℕ) (answer : Result (Heard (ReceiverFault E)) ReceiverRefusal)
       → Listened cause at model standing pending budget w.receiver r w.line l w.buffer buffer answer
       → 255 ≤ length w.buffer → 1 ≤ budget → 1 ≤ length (pending w.line) → ((standing w.receiver).state ≢ state.Holding)
       → TookAMark answer

@@ -1,5 +1,6 @@
 // Why a list of marks was no frame, and at which mark that showed.
 ghost use Rattle.std.specs.Prelude.{◌≡◌};
+ghost use Rattle.hearing.specs.Told.{told_fault};
 
 use formats::fault::{Fault, Layer};
 
@@ -51,5 +52,25 @@ impl<E: Fault> Fault for ReceiverFault<E> {
 
     fn layer(&self) -> Layer {
         self.fault.layer()
+    }
+}
+
+// A fault as it is told to callers, whatever the format.
+#[derive(Clone, Copy, PartialEq, Eq, Debug)]
+pub struct ToldFault {
+    pub number: u8,
+    pub layer: Layer,
+    pub place: u16,
+}
+
+impl<E: Fault + Drop> From<ReceiverFault<E>> for ToldFault {
+    ghost from_gives = { λ f t. t ≡ told_fault E.Fault.cause f };
+
+    fn from(fault: ReceiverFault<E>) -> Self {
+        ToldFault {
+            number: fault.number(),
+            layer: fault.layer(),
+            place: fault.place(),
+        }
     }
 }

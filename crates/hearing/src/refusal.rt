@@ -1,16 +1,20 @@
 // Why a call to a receiver is refused.
-ghost use Rattle.std.specs.Prelude.{◌≡◌};
+ghost use Rattle.std.specs.Prelude.{◌≡◌, Some};
+ghost use Rattle.hearing.specs.Texts.{receiver_refusal_text};
 ghost use Rattle.hearing.specs.Numbers.{receiver_refusal_number};
 
-// In the order in which the calls test them.
+use std::error::Error;
+use std::fmt;
+
+// In the order in which the calls test them, each with the number by which callers know it.
 #[derive(Clone, Copy, PartialEq, Eq, Debug)]
 pub enum ReceiverRefusal {
     // the frame buffer has fewer than 255 octets
-    ShortBuffer,
+    ShortBuffer = 3,
     // the receiver is holding a frame
-    Holding,
+    Holding = 4,
     // the receiver is holding no frame
-    NotHolding,
+    NotHolding = 5,
 }
 
 impl ReceiverRefusal {
@@ -18,10 +22,20 @@ impl ReceiverRefusal {
     pub fn number(self) -> u8
         ensures { result ≡ receiver_refusal_number self }
     {
-        match self {
-            ReceiverRefusal::ShortBuffer => 3,
-            ReceiverRefusal::Holding => 4,
-            ReceiverRefusal::NotHolding => 5,
-        }
+        self as u8
     }
 }
+
+impl fmt::Display for ReceiverRefusal {
+    ghost output = { λ refusal. Some (receiver_refusal_text refusal) };
+
+    fn fmt<W: fmt::Write>(&self, f: &mut fmt::Formatter<W>) -> fmt::Result {
+        f.write_str(match self {
+            ReceiverRefusal::ShortBuffer => "frame buffer has fewer than 255 octets",
+            ReceiverRefusal::Holding => "a frame is held",
+            ReceiverRefusal::NotHolding => "no frame is held",
+        })
+    }
+}
+
+impl Error for ReceiverRefusal {}

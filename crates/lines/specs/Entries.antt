@@ -1,5 +1,5 @@
 -- The entries of a character record.
-use Rattle.std.specs.Prelude.{ℕ, cond, List, [], ◌∷◌, ◌++◌, drop, ◌==◌, nat_lt}
+use Rattle.std.specs.Prelude.{ℕ, cond, List, [], ◌∷◌, ◌++◌, drop, ◌==◌}
 use Rattle.lines.specs.declared.mark.Mark.{Mark}
 use Rattle.lines.specs.declared.mark.Mark.TheVariants.{Zero, One, Bad}
 use Rattle.lines.specs.declared.character.Status.{Status}
@@ -30,6 +30,6 @@ entries [] = []
 entries (s ∷ []) = []
 entries (s ∷ (o ∷ rest)) = entry (status_of s) o ++ entries rest
 
--- what is left of a record from a place of its first entry on; an entry has eleven places, and past them nothing is left
+-- what is left of a record from a place of its first entry on
 abbrev pub left_from : ℕ → List ℕ → List Mark
-left_from place octets = cond (nat_lt place 11) (drop place (entries octets)) []
+left_from place octets = drop place (entries octets)

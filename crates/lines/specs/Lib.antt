@@ -4,3 +4,4 @@ pub mod Records
 pub mod Characters
 pub mod Entries
 pub mod Refusals
+pub mod Texts

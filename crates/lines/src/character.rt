@@ -42,6 +42,25 @@ fn framed_mark(octet: u8, parity: Mark, stop: Mark, place: u8) -> Option<Mark>
     }
 }
 
+// The eleven marks of an octet's character.
+pub fn character(octet: u8) -> [Mark; 11]
+    ensures { result ≡ character octet }
+{
+    [
+        Mark::Zero,
+        data_mark(octet, 0),
+        data_mark(octet, 1),
+        data_mark(octet, 2),
+        data_mark(octet, 3),
+        data_mark(octet, 4),
+        data_mark(octet, 5),
+        data_mark(octet, 6),
+        data_mark(octet, 7),
+        parity_mark(octet),
+        Mark::One,
+    ]
+}
+
 // The mark at a place of an octet's character, counted from 0; past the eleventh there is none.
 pub fn character_mark(octet: u8, place: u8) -> Option<Mark>
     ensures { result ≡ at_place (character octet) place }
@@ -59,11 +78,11 @@ pub enum Status {
     Bad,
 }
 
-impl Status {
-    // 0 is sound, 1 has the parity mark reversed, 2 has stop mark 0, 3 is an idle line, and 4 to 255 are bad.
-    pub fn of(octet: u8) -> Status
-        ensures { result ≡ status_of octet }
-    {
+// 0 is sound, 1 has the parity mark reversed, 2 has stop mark 0, 3 is an idle line, and 4 to 255 are bad.
+impl From<u8> for Status {
+    ghost from_gives = { λ octet r. r ≡ status_of octet };
+
+    fn from(octet: u8) -> Status {
         match octet {
             0 => Status::Sound,
             1 => Status::ParityReversed,

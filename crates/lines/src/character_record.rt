@@ -1,5 +1,5 @@
 // A character record: two octets an entry, a status and a data octet, and eleven marks an entry.
-ghost use Rattle.std.specs.Prelude.{◌≡◌, ◌%◌, length, MatchResult};
+ghost use Rattle.std.specs.Prelude.{◌≡◌, ◌≤◌, ◌%◌, length, MatchResult};
 ghost use Rattle.lines.specs.Entries.{entries, left_from};
 ghost use Rattle.lines.specs.declared.refusal.RecordRefusal.TheVariants.{OddOctetCount};
 
@@ -13,6 +13,7 @@ use crate::refusal::RecordRefusal;
 pub struct CharacterRecord<'a> {
     octets: &'a [u8],
     place: u8,
+    ghost within: { place ≤ 10 },
 }
 
 impl<'a> CharacterRecord<'a> {
@@ -33,7 +34,7 @@ impl Line for CharacterRecord<'_> {
     fn take(&mut self) -> Option<Mark> {
         let (status, rest) = self.octets.split_first()?;
         let (octet, later) = rest.split_first()?;
-        let mark = entry_mark(Status::of(*status), *octet, self.place)?;
+        let mark = entry_mark(Status::from(*status), *octet, self.place)?;
         if self.place < 10 {
             self.place += 1;
         } else {

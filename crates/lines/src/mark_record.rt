@@ -26,17 +26,6 @@ impl Line for MarkRecord<'_> {
     fn take(&mut self) -> Option<Mark> {
         let (first, rest) = self.octets.split_first()?;
         self.octets = rest;
-        Some(mark_of(*first))
-    }
-}
-
-// The mark that an octet of a mark record stands for.
-pub fn mark_of(octet: u8) -> Mark
-    ensures { result ≡ mark_of octet }
-{
-    match octet {
-        0 => Mark::Zero,
-        1 => Mark::One,
-        _ => Mark::Bad,
+        Some(Mark::from(*first))
     }
 }

@@ -1,11 +1,16 @@
 // Why a record is refused.
-ghost use Rattle.std.specs.Prelude.{◌≡◌};
+ghost use Rattle.std.specs.Prelude.{◌≡◌, Some};
 ghost use Rattle.lines.specs.Refusals.{record_refusal_number};
+ghost use Rattle.lines.specs.Texts.{record_refusal_text};
 
+use std::error::Error;
+use std::fmt;
+
+// By the numbers by which callers know them.
 #[derive(Clone, Copy, PartialEq, Eq, Debug)]
 pub enum RecordRefusal {
     // a character record has two octets an entry
-    OddOctetCount,
+    OddOctetCount = 2,
 }
 
 impl RecordRefusal {
@@ -13,8 +18,18 @@ impl RecordRefusal {
     pub fn number(self) -> u8
         ensures { result ≡ record_refusal_number self }
     {
-        match self {
-            RecordRefusal::OddOctetCount => 2,
-        }
+        self as u8
     }
 }
+
+impl fmt::Display for RecordRefusal {
+    ghost output = { λ refusal. Some (record_refusal_text refusal) };
+
+    fn fmt<W: fmt::Write>(&self, f: &mut fmt::Formatter<W>) -> fmt::Result {
+        f.write_str(match self {
+            RecordRefusal::OddOctetCount => "odd number of octets",
+        })
+    }
+}
+
+impl Error for RecordRefusal {}

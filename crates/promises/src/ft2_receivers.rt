@@ -1,52 +1,38 @@
-// FT2: the receiver's promise over each kind of line. Each function answers the distance: fewer altered marks are never
-// taken for a frame.
-ghost use Rattle.std.specs.Prelude.{◌++◌, map, ◌≡◌};
+// The receiver's promise for FT2. It stands beside FT1.2's, since each is a theorem that a contract has to name.
+ghost use Rattle.std.specs.Prelude.{◌≡◌, ◌++◌, map, replicate};
 ghost use Rattle.lines.specs.Entries.{left_from};
 ghost use Rattle.lines.specs.Layers.{exchanged, held, threes};
 ghost use Rattle.lines.specs.Records.{mark_of};
 ghost use Rattle.promises.specs.Ft2Receivers.{Ft2Promise};
 
+use crate::each_line::{over_character_records, over_mark_records, over_reversed, over_sampled};
 use ft2::format::Ft2;
 use lines::character_record::CharacterRecord;
 use lines::line::Line;
 use lines::mark_record::MarkRecord;
 use lines::reversal::Reversed;
 use lines::sampling::Sampled;
-use receiver::promise::never_deaf_and_never_deceived;
 use receiver::receiver::Receiver;
 
-// Over mark records.
-pub fn ft2_over_mark_records(receiver: &Receiver<Ft2>, line: &MarkRecord) -> u8
-    ensures promise { Ft2Promise (λ (l : MarkRecord). map mark_of l.octets.now) }
-    ensures distance { result ≡ 4 }
+// Over mark records, over character records, over any line with its pair reversed, and over any line that is sampled: the
+// distance, each time.
+pub fn ft2_over_each_line<L: Line>(
+    receiver: &Receiver<Ft2>,
+    marks: &MarkRecord,
+    characters: &CharacterRecord,
+    reversed: &Reversed<L>,
+    sampled: &Sampled<L>,
+) -> [u8; 4]
+    ensures mark_records { Ft2Promise (λ (l : MarkRecord). map mark_of l.octets.now) }
+    ensures character_records { Ft2Promise (λ (l : CharacterRecord). left_from l.place l.octets.now) }
+    ensures reversed { Ft2Promise (λ (l : Reversed L). map exchanged (L.Line.pending l.below)) }
+    ensures sampled { Ft2Promise (λ (l : Sampled L). threes (held l.kept ++ L.Line.pending l.below)) }
+    ensures distances { result ≡ replicate 4 4 }
 {
-    let marks = line;
-    never_deaf_and_never_deceived(receiver, marks)
-}
-
-// Over character records.
-pub fn ft2_over_character_records(receiver: &Receiver<Ft2>, line: &CharacterRecord) -> u8
-    ensures promise { Ft2Promise (λ (l : CharacterRecord). left_from l.place l.octets.now) }
-    ensures distance { result ≡ 4 }
-{
-    let characters = line;
-    never_deaf_and_never_deceived(receiver, characters)
-}
-
-// Over any line with its pair reversed.
-pub fn ft2_over_reversed<L: Line>(receiver: &Receiver<Ft2>, line: &Reversed<L>) -> u8
-    ensures promise { Ft2Promise (λ (l : Reversed L). map exchanged (L.Line.pending l.below)) }
-    ensures distance { result ≡ 4 }
-{
-    let reversed = line;
-    never_deaf_and_never_deceived(receiver, reversed)
-}
-
-// Over any line that is sampled.
-pub fn ft2_over_sampled<L: Line>(receiver: &Receiver<Ft2>, line: &Sampled<L>) -> u8
-    ensures promise { Ft2Promise (λ (l : Sampled L). threes (held l.kept ++ L.Line.pending l.below)) }
-    ensures distance { result ≡ 4 }
-{
-    let sampled = line;
-    never_deaf_and_never_deceived(receiver, sampled)
+    [
+        over_mark_records(receiver, marks),
+        over_character_records(receiver, characters),
+        over_reversed(receiver, reversed),
+        over_sampled(receiver, sampled),
+    ]
 }

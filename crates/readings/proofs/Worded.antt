@@ -1,26 +1,11 @@
 -- What becomes of the words of a keyed line.
-use Rattle.std.proofs.Common.{◌≡◌, ℕ, ◌<◌, ◌≤◌, ◌⊎◌, List, [], ◌∷◌, ◌++◌, length, Some, Ok, Err, Result, sym, refl, subst, inl, inr, arith, MatchResult}
+use Rattle.std.proofs.Common.{◌≡◌, ℕ, ◌<◌, List, [], ◌∷◌, ◌++◌, length, Ok, Err, Result, refl, subst, inl, inr, arith, MatchResult}
 use Rattle.std.specs.Char.{is_whitespace, is_not_whitespace}
 use Rattle.std.specs.Str.{NoCharPasses, EmptyOrStartsWithPassing}
-use Rattle.readings.specs.Keyed.{Cuts, First, Limits, Refused, Three, Words, Writes, Wrong, at_terminal, number_in}
-use Rattle.readings.specs.Octets.{Unfit}
+use Rattle.readings.specs.Keyed.{Cuts, First, Refused, Three, Words, Writes, Wrong}
 use Rattle.readings.specs.declared.reading.Reading.{Reading}
 use Rattle.readings.specs.declared.refusal.Miskeyed.{Miskeyed}
 use Rattle.readings.specs.declared.refusal.Miskeyed.TheVariants as keyed
-use Rattle.readings.specs.declared.refusal.NoReading.{NoReading}
-use Rattle.readings.specs.declared.refusal.NoReading.TheVariants.{WrongCount, OutOfLimits}
-use Rattle.readings.specs.declared.refusal.Part.TheVariants.{Batch, Temperature, Viscosity}
-
-pub no_batch : (n : ℕ) → (n < 1) ⊎ ((1 ≤ n) × (65535 < n)) → Limits Batch n → ⊥
-no_batch n (inl h) l = omega arith
-no_batch n (inr h) l = omega arith
-
--- a reading that was refused at a batch and a temperature that may be keyed
-pub at_fault : (words : Words) (b v : ℕ) → 1 ≤ b → number_in Viscosity words.viscosity ≡ Some v → (fault : NoReading) → Unfit b 400 v fault → (e : Miskeyed) → e ≡ at_terminal fault → Wrong words e
-at_fault words b v h p WrongCount u e q = absurd u
-at_fault words b v h p (OutOfLimits Batch) u e q = absurd (omega arith)
-at_fault words b v h p (OutOfLimits Temperature) u e q = absurd (omega arith)
-at_fault words b v h p (OutOfLimits Viscosity) u e q = subst (Wrong words) (sym q) (v, p, λ l. u.2 l.0 l.1)
 
 -- what `split_whitespace` says of an item
 abbrev pub Found : List ℕ → List ℕ → List ℕ → Type 0
@@ -32,10 +17,7 @@ first_of text word rest cut = record { gap = cut.0; cut = cut.1; some = cut.2; b
 few : (text : List ℕ) (words : List (List ℕ)) (rest : List ℕ) → Cuts text words rest → length words < 3 → NoCharPasses is_not_whitespace rest → Refused text keyed.WrongCount
 few text words rest cuts h blank = inl (refl, (words, rest, cuts, inl (h, blank)))
 
--- no word, one, two, and a fourth
-pub no_word : (text from : List ℕ) → from ≡ text → NoCharPasses is_not_whitespace from → Refused text keyed.WrongCount
-no_word text from e blank = few text [] from (sym e) (omega arith) blank
-
+-- one word, two, and a fourth
 pub one_word : (text from a r : List ℕ) → from ≡ text → Found from a r → NoCharPasses is_not_whitespace r → Refused text keyed.WrongCount
 one_word text from a r e f blank = subst (λ t. Refused t keyed.WrongCount) e (few from (a ∷ []) r (r, first_of from a r f, refl) (omega arith) blank)
 

@@ -1,3 +1,4 @@
 pub mod Keyed
 pub mod Numbers
 pub mod Octets
+pub mod Texts

@@ -6,10 +6,9 @@ ghost use Rattle.readings.specs.Numbers.{decimal_of, digits_on, with_digit};
 fn with_digit(number: u32, symbol: u8) -> Option<u32>
     ensures { result ≡ with_digit number symbol }
 {
-    if number < 1_000_000 && symbol >= b'0' && symbol <= b'9' {
-        Some(10 * number + u32::from(symbol - b'0'))
-    } else {
-        None
+    match symbol {
+        b'0'..=b'9' if number < 1_000_000 => Some(10 * number + u32::from(symbol - b'0')),
+        _ => None,
     }
 }
 
@@ -17,11 +16,9 @@ fn with_digit(number: u32, symbol: u8) -> Option<u32>
 pub(crate) fn digits(number: u32, symbols: &[u8]) -> Option<u32>
     ensures { result ≡ digits_on (Some number) symbols.now }
 {
-    let mut number = number;
-    for symbol in symbols {
-        number = with_digit(number, *symbol)?;
-    }
-    Some(number)
+    symbols
+        .iter()
+        .try_fold(number, |number, symbol| with_digit(number, *symbol))
 }
 
 // The number with so many decimals behind its point, in units of the last decimal.
@@ -33,10 +30,8 @@ pub(crate) fn decimal(symbols: &[u8], places: usize) -> Option<u32>
         return None;
     }
     let (whole, rest) = symbols.split_at(count - places - 1);
-    let (point, decimals) = rest.split_first()?;
-    if *point != b'.' {
+    let [b'.', decimals @ ..] = rest else {
         return None;
-    }
-    let number = digits(0, whole)?;
-    digits(number, decimals)
+    };
+    digits(digits(0, whole)?, decimals)
 }

@@ -1,4 +1,8 @@
 // Why octets, or what was keyed, is no reading.
+ghost use Rattle.std.specs.Prelude.{◌≡◌};
+ghost use Rattle.readings.specs.Keyed.{at_terminal};
+
+use std::error::Error;
 
 // The parts of a reading.
 #[derive(Clone, Copy, PartialEq, Eq, Debug)]
@@ -26,4 +30,20 @@ pub enum Miskeyed {
     NoNumber(Part),
     // a part is outside its limits
     OutOfLimits(Part),
+}
+
+impl Error for NoReading {}
+
+impl Error for Miskeyed {}
+
+// What is wrong with a reading, as it is told at the terminal.
+impl From<NoReading> for Miskeyed {
+    ghost from_gives = { λ fault miskeyed. miskeyed ≡ at_terminal fault };
+
+    fn from(fault: NoReading) -> Miskeyed {
+        match fault {
+            NoReading::WrongCount => Miskeyed::WrongCount,
+            NoReading::OutOfLimits(part) => Miskeyed::OutOfLimits(part),
+        }
+    }
 }

@@ -6,9 +6,9 @@ use std::test::Fail;
 #[test]
 fn octets_of_a_reading(rt: HostRuntime) -> Result<(), Fail> {
     let reading = Reading::new(1207, 400, 9531)?;
-    assert_eq!(rt; reading.to_octets(), [4, 183, 1, 144, 0, 37, 59]);
+    assert_eq!(rt; <[u8; 7]>::from(reading), [4, 183, 1, 144, 0, 37, 59]);
     assert_eq!(rt;
-        Reading::from_octets(&[4, 183, 1, 144, 0, 37, 59])?,
+        Reading::try_from(&[4, 183, 1, 144, 0, 37, 59][..])?,
         reading
     );
     Ok(())

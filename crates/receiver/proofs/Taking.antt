@@ -1,60 +1,86 @@
 -- One mark taken, by the stage of the receiver.
-use Rattle.std.proofs.Common.{◌≡◌, ℕ, List, [], ◌∷◌, length, Option, sym, refl, ap, ◌∙◌, subst, arith}
+use Rattle.std.proofs.Common.{◌≡◌, ℕ, List, [], ◌∷◌, Option, sym, refl, ap, ◌∙◌, subst}
 use Rattle.lines.specs.declared.mark.Mark.{Mark}
 use Rattle.lines.specs.declared.mark.Mark.TheVariants.{Zero, One, Bad}
-use Rattle.formats.specs.Laws.{Model}
 use Rattle.formats.specs.Marks.{Begins}
-use Rattle.formats.specs.Verdicts.{Cause}
+use Rattle.formats.specs.declared.fault.Fault.{Ghosts as Faults}
+use Rattle.formats.specs.declared.format.ReadFormat.{Ghosts as Reads}
 use Rattle.hearing.proofs.Verdicts.{begins_more}
-use Rattle.hearing.specs.Rules.{Step, by_stage, count_told, holding, judged, ready, run_after, waiting, within}
+use Rattle.hearing.specs.Rules.{Step, by_stage, holding, judged, ready, run_after, waiting, within}
 use Rattle.hearing.specs.Rules as rules
 use Rattle.hearing.specs.declared.answer.Ending.{Ending}
-use Rattle.receiver.specs.Places.{At}
+use Rattle.hearing.specs.declared.fault.ReceiverFault.{ReceiverFault}
+use Rattle.receiver.specs.Places.{At, model_of}
+use Rattle.receiver.specs.Stages.{Keeps, ListKept}
 use Rattle.receiver.specs.Steps.{EndedBy, Judges, Takes}
 use Rattle.receiver.specs.declared.receiver.Receiver.{Receiver}
-use Rattle.receiver.specs.declared.receiver.Stage.{Stage}
-use Rattle.receiver.specs.declared.receiver.Stage.TheVariants as stage
+use Rattle.receiver.specs.declared.stage.OpenList.{OpenList}
+use Rattle.receiver.specs.declared.stage.Stage.TheVariants as stage
 
-module _ {F E : Type 0} (cause : E → Cause) (model : F → Model) (stands : F → List Mark → Type 0) (f : F) (run run' : ℕ) (mark : Mark) (r' : Receiver F) (buffer buffer' : List ℕ) (answer : Option (Ending E)) (counts : run' ≡ run_after (model f).gap run mark) where
-  -- what is said of a step
-  abbrev Said : Step → Type 0
-  Said s = At model stands r' buffer' s.hearer × EndedBy cause s.event answer
+-- what is kept of the empty list
+abbrev pub empty : OpenList
+empty = record { marks = 0; octets = 0 }
 
-  -- the same list by the hearer's run and buffer
-  same_step : (list : List Mark) (n : ℕ) (b : List ℕ) → run ≡ n → b ≡ buffer → Said (judged (model f) list run' buffer mark) → Said (judged (model f) list (run_after (model f).gap n mark) b mark)
-  same_step list n b en eb p =
-      let steps : judged (model f) list run' buffer mark ≡ judged (model f) list (run_after (model f).gap n mark) b mark = ap (λ k. judged (model f) list k buffer mark) (counts ∙ ap (λ k. run_after (model f).gap k mark) en) ∙ ap (λ l. judged (model f) list (run_after (model f).gap n mark) l mark) (sym eb) in
-      subst Said steps p
+pub empty_by : (l : OpenList) → l.marks ≡ 0 → l.octets ≡ 0 → l ≡ empty
+empty_by l m o = ap (λ n. record { marks = n; octets = l.octets }) m ∙ ap (λ n. record { marks = 0; octets = n }) o
 
-  module _ (old : Stage) (marks octets : ℕ) (was : old ≡ stage.Open marks octets) (is : Judges (EndedBy cause) model stands mark marks octets (record { format = f; stage = old; run = run' }) r' buffer buffer' answer) where
-    in_open : (s : rules.Stage) (n : ℕ) (b : List ℕ) → At model stands (record { format = f; stage = old; run = run }) buffer (record { stage = s; run = n; buffer = b }) → Said (by_stage (model f) s (run_after (model f).gap n mark) b mark)
-    in_open waiting n b p = let e = p.stage_kept in let z : ◌≡◌ {A = ℕ} 0 1 = cc in absurd (omega arith)
-    in_open ready n b p = let e = p.stage_kept in let z : ◌≡◌ {A = ℕ} 0 1 = cc in absurd (omega arith)
-    in_open (within list) n b p =
-        let e = p.stage_kept in
-        let em : marks ≡ length list = cc in
-        let eo : octets ≡ count_told (model f) list = cc in
-        same_step list n b p.run_kept p.buffer_kept (is.each list p.list_stands p.sound.1 (begins_more list (mark ∷ []) p.sound.0) em eo)
-    in_open (holding kind count) n b p = let e = p.stage_kept in let z : ◌≡◌ {A = ℕ} 0 1 = cc in absurd (omega arith)
+begins_other : (mark : Mark) → (mark ≡ One → ⊥) → Begins (mark ∷ [])
+begins_other Zero n = tt
+begins_other One n = n refl
+begins_other Bad n = tt
 
-    pub takes_open : Takes cause model stands mark (record { format = f; stage = old; run = run }) r' buffer buffer' answer
-    takes_open = record { same_format = is.same_format; each = λ a p. in_open a.stage a.run a.buffer p }
+module _ {F E : Type 0} {read : Reads F E} {fault : Faults E} (r : Receiver F E read fault) (mark : Mark) where
+  -- at a stage that is open, and at a stage that is ready
+  pub list_of_open : (list : OpenList) → r.stage ≡ stage.Open list → Keeps read.model read.stands r.format r.stage → ListKept read.model read.stands r.format mark list
+  list_of_open list was (waiting, p) = let e = p.stage_kept in cc
+  list_of_open list was (ready, p) = let e = p.stage_kept in cc
+  list_of_open list was (within marks, p) = let e = p.stage_kept in (marks, p.list_stands, p.sound.1, begins_more marks (mark ∷ []) p.sound.0, cc)
+  list_of_open list was (holding kind count, p) = let e = p.stage_kept in cc
 
-  module _ (old : Stage) (was : old ≡ stage.Ready) (other : mark ≡ One → ⊥) (is : Judges (EndedBy cause) model stands mark 0 0 (record { format = f; stage = old; run = run' }) r' buffer buffer' answer) where
-    opens : (x : Mark) → mark ≡ x → (n : ℕ) (b : List ℕ) → run ≡ n → b ≡ buffer → stands f [] → Said (by_stage (model f) ready (run_after (model f).gap n mark) b x)
-    opens Zero e n b en eb st =
-        let step = same_step [] n b en eb (is.each [] st tt (subst (λ y. Begins (y ∷ [])) (sym e) tt) refl refl) in
-        subst (λ y. Said (judged (model f) [] (run_after (model f).gap n mark) b y)) e step
-    opens One e n b en eb st = absurd (other e)
-    opens Bad e n b en eb st =
-        let step = same_step [] n b en eb (is.each [] st tt (subst (λ y. Begins (y ∷ [])) (sym e) tt) refl refl) in
-        subst (λ y. Said (judged (model f) [] (run_after (model f).gap n mark) b y)) e step
+  pub list_of_ready : (list : OpenList) → list ≡ empty → r.stage ≡ stage.Ready → (mark ≡ One → ⊥) → Keeps read.model read.stands r.format r.stage → ListKept read.model read.stands r.format mark list
+  list_of_ready list none was other (waiting, p) = let e = p.stage_kept in cc
+  list_of_ready list none was other (ready, p) = ([], p.list_stands, tt, begins_other mark other, none)
+  list_of_ready list none was other (within marks, p) = let e = p.stage_kept in cc
+  list_of_ready list none was other (holding kind count, p) = let e = p.stage_kept in cc
 
-    in_ready : (s : rules.Stage) (n : ℕ) (b : List ℕ) → At model stands (record { format = f; stage = old; run = run }) buffer (record { stage = s; run = n; buffer = b }) → Said (by_stage (model f) s (run_after (model f).gap n mark) b mark)
-    in_ready waiting n b p = let e = p.stage_kept in let z : ◌≡◌ {A = ℕ} 0 1 = cc in absurd (omega arith)
-    in_ready ready n b p = opens mark refl n b p.run_kept p.buffer_kept p.list_stands
-    in_ready (within list) n b p = let e = p.stage_kept in let z : ◌≡◌ {A = ℕ} 0 1 = cc in absurd (omega arith)
-    in_ready (holding kind count) n b p = let e = p.stage_kept in let z : ◌≡◌ {A = ℕ} 0 1 = cc in absurd (omega arith)
+  module _ (run' : ℕ) (k : ∥ Keeps read.model read.stands r.format r.stage ∥₁) (counts : run' ≡ run_after (model_of r).gap r.run mark) (r' : Receiver F E read fault) (buffer buffer' : List ℕ) (answer : Option (Ending (ReceiverFault E))) where
+    -- the mark counted in the run
+    abbrev counted : Receiver F E read fault
+    counted = record { format = r.format; stage = r.stage; run = run'; keeps = k }
 
-    pub takes_first : Takes cause model stands mark (record { format = f; stage = old; run = run }) r' buffer buffer' answer
-    takes_first = record { same_format = is.same_format; each = λ a p. in_ready a.stage a.run a.buffer p }
+    -- what is said of a step
+    abbrev Said : Step → Type 0
+    Said s = At r' buffer' s.hearer × EndedBy fault.cause s.event answer
+
+    -- the same list by the hearer's run and buffer
+    same_step : (list : List Mark) (n : ℕ) (b : List ℕ) → r.run ≡ n → b ≡ buffer → Said (judged (model_of r) list run' buffer mark) → Said (judged (model_of r) list (run_after (model_of r).gap n mark) b mark)
+    same_step list n b en eb p =
+        let runs : run' ≡ run_after (model_of r).gap n mark = counts ∙ ap (λ k. run_after (model_of r).gap k mark) en in
+        subst (λ k. Said (judged (model_of r) list k b mark)) runs (subst (λ l. Said (judged (model_of r) list run' l mark)) (sym eb) p)
+
+    module _ (so_far : OpenList) (was : r.stage ≡ stage.Open so_far) (is : Judges mark so_far counted r' buffer buffer' answer) where
+      in_open : (s : rules.Stage) (n : ℕ) (b : List ℕ) → At r buffer (record { stage = s; run = n; buffer = b }) → Said (by_stage (model_of r) s (run_after (model_of r).gap n mark) b mark)
+      in_open waiting n b p = let e = p.stands.stage_kept in cc
+      in_open ready n b p = let e = p.stands.stage_kept in cc
+      in_open (within list) n b p =
+          let e = p.stands.stage_kept in
+          same_step list n b p.run_kept p.buffer_kept (is.each list p.stands.list_stands p.stands.sound.1 (begins_more list (mark ∷ []) p.stands.sound.0) (cc))
+      in_open (holding kind count) n b p = let e = p.stands.stage_kept in cc
+
+      pub takes_open : Takes mark r r' buffer buffer' answer
+      takes_open = record { same_format = is.same_format; each = λ a p. in_open a.stage a.run a.buffer p }
+
+    module _ (so_far : OpenList) (none : so_far ≡ empty) (was : r.stage ≡ stage.Ready) (other : mark ≡ One → ⊥) (is : Judges mark so_far counted r' buffer buffer' answer) where
+      opens : (x : Mark) → mark ≡ x → (n : ℕ) (b : List ℕ) → Said (judged (model_of r) [] (run_after (model_of r).gap n mark) b mark) → Said (by_stage (model_of r) ready (run_after (model_of r).gap n mark) b x)
+      opens Zero e n b p = subst (λ y. Said (judged (model_of r) [] (run_after (model_of r).gap n mark) b y)) e p
+      opens One e n b p = absurd (other e)
+      opens Bad e n b p = subst (λ y. Said (judged (model_of r) [] (run_after (model_of r).gap n mark) b y)) e p
+
+      in_ready : (s : rules.Stage) (n : ℕ) (b : List ℕ) → At r buffer (record { stage = s; run = n; buffer = b }) → Said (by_stage (model_of r) s (run_after (model_of r).gap n mark) b mark)
+      in_ready waiting n b p = let e = p.stands.stage_kept in cc
+      in_ready ready n b p = opens mark refl n b (same_step [] n b p.run_kept p.buffer_kept (is.each [] p.stands.list_stands tt (begins_other mark other) none))
+      in_ready (within list) n b p = let e = p.stands.stage_kept in cc
+      in_ready (holding kind count) n b p = let e = p.stands.stage_kept in cc
+
+      pub takes_first : Takes mark r r' buffer buffer' answer
+      takes_first = record { same_format = is.same_format; each = λ a p. in_ready a.stage a.run a.buffer p }

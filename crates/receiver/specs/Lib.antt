@@ -1,2 +1,4 @@
+pub mod Stages
 pub mod Places
 pub mod Steps
+pub mod Promise

@@ -1,25 +1,22 @@
 -- What one mark does to a receiver.
-use Rattle.std.specs.Prelude.{◌≡◌, ℕ, List, [], ◌∷◌, ◌++◌, length, Some, None, Ok, Err, Option, Result}
+use Rattle.std.specs.Prelude.{◌≡◌, ℕ, List, [], ◌∷◌, ◌++◌, Some, None, Option}
 use Rattle.lines.specs.declared.mark.Mark.{Mark}
-use Rattle.formats.specs.Laws.{Model}
 use Rattle.formats.specs.Marks.{Begins}
 use Rattle.formats.specs.Verdicts.{Cause, OpenAlong}
+use Rattle.formats.specs.declared.fault.Fault.{Ghosts as Faults}
+use Rattle.formats.specs.declared.format.ReadFormat.{Ghosts as Reads}
 use Rattle.hearing.specs.Calls.{Ends}
-use Rattle.hearing.specs.Rules.{Event, Hearer, count_told, fault, frame, hears, judged, nothing}
+use Rattle.hearing.specs.Rules.{Event, Hearer, hears, judged, nothing}
 use Rattle.hearing.specs.declared.answer.Ending.{Ending}
 use Rattle.hearing.specs.declared.answer.Ending.TheVariants as ending
 use Rattle.hearing.specs.declared.fault.ReceiverFault.{ReceiverFault}
-use Rattle.receiver.specs.Places.{At}
+use Rattle.receiver.specs.Places.{At, model_of}
+use Rattle.receiver.specs.Stages.{list_kept}
 use Rattle.receiver.specs.declared.receiver.Receiver.{Receiver}
-
--- a list goes on, is a frame of a kind, or is a fault
-abbrev pub JudgedAs : {E : Type 0} → (E → Cause) → Event → Result (Option ℕ) (ReceiverFault E) → Type 0
-JudgedAs cause nothing r = r ≡ Ok None
-JudgedAs cause (frame kind octets) r = r ≡ Ok (Some kind)
-JudgedAs {E} cause (fault why place) r = (e : ReceiverFault E) × (r ≡ Err e) × (cause e.fault ≡ why)
+use Rattle.receiver.specs.declared.stage.OpenList.{OpenList}
 
 -- a mark ends the listen, or does not
-abbrev pub EndedBy : {E : Type 0} → (E → Cause) → Event → Option (Ending E) → Type 0
+abbrev pub EndedBy : {E : Type 0} → (E → Cause) → Event → Option (Ending (ReceiverFault E)) → Type 0
 EndedBy cause event None = event ≡ nothing
 EndedBy cause event (Some end) = Ends cause event end
 
@@ -31,14 +28,15 @@ Loud (Some (ending.Fault why)) = Unit {0}
 Loud (Some ending.Spent) = ⊥
 Loud (Some ending.Empty) = ⊥
 
--- One mark more in an open list, of so many marks and octets told: for each such list that the format stands for,
--- the receiver is where the rules have it, and the answer says what the mark brought.
-pub record Judges {F A : Type 0} (says : Event → A → Type 0) (model : F → Model) (stands : F → List Mark → Type 0) (mark : Mark) (marks octets : ℕ) (r r' : Receiver F) (buffer buffer' : List ℕ) (answer : A) : Type 0 where
-  pub same_format : model r'.format ≡ model r.format
-  pub each : (list : List Mark) → stands r.format list → OpenAlong (model r.format).verdict [] list → Begins (list ++ (mark ∷ [])) → marks ≡ length list → octets ≡ count_told (model r.format) list
-      → At model stands r' buffer' (judged (model r.format) list r.run buffer mark).hearer × says (judged (model r.format) list r.run buffer mark).event answer
+module _ {F E : Type 0} {read : Reads F E} {fault : Faults E} where
+  -- One mark more in an open list of which so much is kept: for each such list that the format stands for, the receiver is
+  -- where the rules have it, and the answer is what the mark brought.
+  pub record Judges (mark : Mark) (so_far : OpenList) (r r' : Receiver F E read fault) (buffer buffer' : List ℕ) (answer : Option (Ending (ReceiverFault E))) : Type 0 where
+    pub same_format : model_of r' ≡ model_of r
+    pub each : (list : List Mark) → read.stands r.format list → OpenAlong (model_of r).verdict [] list → Begins (list ++ (mark ∷ [])) → so_far ≡ list_kept (model_of r) list
+        → At r' buffer' (judged (model_of r) list r.run buffer mark).hearer × EndedBy fault.cause (judged (model_of r) list r.run buffer mark).event answer
 
--- One mark taken: the same for each hearer that the receiver is at.
-pub record Takes {F E : Type 0} (cause : E → Cause) (model : F → Model) (stands : F → List Mark → Type 0) (mark : Mark) (r r' : Receiver F) (buffer buffer' : List ℕ) (answer : Option (Ending E)) : Type 0 where
-  pub same_format : model r'.format ≡ model r.format
-  pub each : (a : Hearer) → At model stands r buffer a → At model stands r' buffer' (hears (model r.format) a mark).hearer × EndedBy cause (hears (model r.format) a mark).event answer
+  -- One mark taken: the same for each hearer that the receiver is at.
+  pub record Takes (mark : Mark) (r r' : Receiver F E read fault) (buffer buffer' : List ℕ) (answer : Option (Ending (ReceiverFault E))) : Type 0 where
+    pub same_format : model_of r' ≡ model_of r
+    pub each : (a : Hearer) → At r buffer a → At r' buffer' (hears (model_of r) a mark).hearer × EndedBy fault.cause (hears (model_of r) a mark).event answer

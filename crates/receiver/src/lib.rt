@@ -4,3 +4,4 @@
 pub mod octets;
 pub mod promise;
 pub mod receiver;
+mod stage;

@@ -1,5 +1,7 @@
 // The user octets of a frame, read where they lie.
-ghost use Rattle.std.specs.Prelude.{◌≡◌, length, take};
+ghost use Rattle.std.specs.Prelude.{◌≡◌, ℕ, List, ◌++◌, length, take};
+
+use crate::receiver::FRAME_OCTETS;
 
 // The first octets of a frame buffer.
 #[derive(Drop)]
@@ -8,16 +10,12 @@ pub struct UserOctets<'a> {
 }
 
 impl<'a> UserOctets<'a> {
-    // The first `count` octets of the buffer; all of them where it has fewer.
-    pub(crate) fn first(buffer: &'a [u8], count: usize) -> Self
-        ensures { result.octets.now ≡ take count buffer.now }
+    // The first `count` octets of a buffer that begins with the frame.
+    pub(crate) fn first(frame: &'a [u8; FRAME_OCTETS], count: u8) -> Self
+        ensures { (rest : List ℕ) → result.octets.now ≡ take count (frame.now ++ rest) }
     {
-        if count < buffer.len() {
-            UserOctets {
-                octets: &buffer[0..count],
-            }
-        } else {
-            UserOctets { octets: buffer }
+        UserOctets {
+            octets: &frame[..count as usize],
         }
     }
 

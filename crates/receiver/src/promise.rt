@@ -1,7 +1,7 @@
 // What a receiver promises, for every format and every line.
 ghost use Rattle.std.specs.Prelude.{◌≡◌};
-ghost use Rattle.hearing.specs.Promise.{Promise};
-ghost use Rattle.receiver.specs.Places.{At, model_of, standing_of};
+ghost use Rattle.receiver.specs.Places.{model_of};
+ghost use Rattle.receiver.specs.Promise.{ReceiverPromise};
 
 use crate::receiver::Receiver;
 use formats::format::ReadFormat;
@@ -13,8 +13,9 @@ pub fn never_deaf_and_never_deceived<F: ReadFormat, L: Line>(
     receiver: &Receiver<F>,
     _line: &L,
 ) -> u8
-    ensures promise { Promise F.Fault.cause (At F.ReadFormat.model F.ReadFormat.stands) (model_of F.ReadFormat.model) standing_of L.Line.pending }
-    ensures distance { result ≡ (model_of F.ReadFormat.model receiver.now).distance }
+    ensures promise { ReceiverPromise F.ReadFormat F.Fault.Fault L.Line.pending }
+    ensures distance { result ≡ (model_of receiver.now).distance }
+    ensures named { result ≡ F.DISTANCE }
 {
     receiver.format().hamming_distance()
 }

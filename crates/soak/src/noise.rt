@@ -1,5 +1,8 @@
 // Noise from a seed: the same seed gives the same noise.
-use std::alloc::{AllocError, AllocFailed};
+ghost use Rattle.std.specs.Prelude.{◌≡◌, ◌+◌, length, OnOk, bit_or};
+ghost use Rattle.soak.specs.Noise.{mark_of, octet_of, shifted};
+
+use std::alloc::AllocFailed;
 
 #[derive(Clone, Copy)]
 pub struct Noise {
@@ -7,31 +10,34 @@ pub struct Noise {
 }
 
 impl Noise {
-    pub fn new(seed: u32) -> Noise {
+    pub fn new(seed: u32) -> Noise
+        ensures { result.state ≡ bit_or seed 1 }
+    {
         Noise { state: seed | 1 }
     }
 
-    // The next number, by shifts and exclusive or.
-    pub fn next(&mut self) -> u32 {
+    // An octet of the next state, which comes by shifts and exclusive or.
+    pub fn octet(&mut self) -> u8
+        ensures state { self.new.state ≡ shifted self.old.state }
+        ensures octet { result ≡ octet_of self.new.state }
+    {
         let mut x = self.state;
         x ^= x << 13;
         x ^= x >> 17;
         x ^= x << 5;
         self.state = x;
-        x
-    }
-
-    // A number below 256.
-    pub fn octet(&mut self) -> u8 {
-        ((self.next() >> 8) & 0xff) as u8
+        ((x >> 8) & 0xff) as u8
     }
 
     // An octet of a mark record: 0 and bad as often as said, of 256, and else 1.
-    pub fn mark(&mut self, zeros: u8, bad: u8) -> u8 {
-        let x = u16::from(self.octet());
-        if x < u16::from(zeros) {
+    pub fn mark(&mut self, zeros: u8, bad: u8) -> u8
+        ensures state { self.new.state ≡ shifted self.old.state }
+        ensures mark { result ≡ mark_of zeros bad (octet_of self.new.state) }
+    {
+        let octet = self.octet();
+        if octet < zeros {
             0
-        } else if x < u16::from(zeros) + u16::from(bad) {
+        } else if octet - zeros < bad {
             2
         } else {
             1
@@ -39,22 +45,26 @@ impl Noise {
     }
 
     // Appends marks of noise, of one of four kinds.
-    pub fn fill(&mut self, marks: &mut Vec<u8>, count: u32) -> Result<(), AllocFailed<u8>> {
+    pub fn fill(&mut self, marks: &mut Vec<u8>, count: u32) -> Result<(), AllocFailed<u8>>
+        ensures { OnOk result (length marks.new.items ≡ length marks.old.items + count) }
+    {
         let (zeros, bad) = match self.octet() % 4 {
             0 => (128, 0),
             1 => (32, 2),
             2 => (4, 1),
             _ => (100, 16),
         };
-        for _ in 0..count {
+        for _i in 0..count {
             marks.push(self.mark(zeros, bad))?;
         }
         Ok(())
     }
 
     // Appends so many octets.
-    pub fn octets(&mut self, octets: &mut Vec<u8>, count: u8) -> Result<(), AllocFailed<u8>> {
-        for _ in 0..count {
+    pub fn octets(&mut self, octets: &mut Vec<u8>, count: u8) -> Result<(), AllocFailed<u8>>
+        ensures { OnOk result (length octets.new.items ≡ length octets.old.items + count) }
+    {
+        for _i in 0..count {
             octets.push(self.octet())?;
         }
         Ok(())

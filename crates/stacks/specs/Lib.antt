@@ -1,3 +1,4 @@
 pub mod Layering
 pub mod Stacks
 pub mod Records
+pub mod Texts

@@ -1,6 +1,5 @@
-// A line with one layer over it, or none.
-ghost use Rattle.std.specs.Prelude.{◌≡◌, [], ◌∷◌};
-ghost use Rattle.std.specs.Option.{option_to_list};
+// A line with one layer over it.
+ghost use Rattle.std.specs.Prelude.{◌≡◌};
 ghost use Rattle.stacks.specs.Layering.{layered, layer_on, below_of, kept_of};
 ghost use Rattle.lines.specs.declared.sampling.Kept.TheVariants.{Nothing};
 ghost use Rattle.lines.specs.Taking.{Taken};
@@ -13,7 +12,6 @@ use lines::sampling::{Kept, Sampled};
 
 #[derive(Drop)]
 pub enum Layered<L> {
-    Bare(L),
     Reversal(Reversed<L>),
     Sampling(Sampled<L>),
 }
@@ -21,7 +19,7 @@ pub enum Layered<L> {
 impl<L: Line> Layered<L> {
     // The layer over a line; nothing is kept at first.
     pub(crate) fn over(layer: Layer, below: L) -> Self
-        ensures named { layer_on result ≡ layer ∷ [] }
+        ensures named { layer_on result ≡ layer }
         ensures line { below_of result ≡ below }
         ensures fresh { kept_of result ≡ Nothing }
     {
@@ -31,14 +29,13 @@ impl<L: Line> Layered<L> {
         }
     }
 
-    // The layer's name, where there is one.
-    pub(crate) fn layer(&self) -> Option<Layer>
-        ensures { option_to_list result ≡ layer_on self.now }
+    // The layer's name.
+    pub(crate) fn layer(&self) -> Layer
+        ensures { result ≡ layer_on self.now }
     {
         match self {
-            Layered::Bare(_) => None,
-            Layered::Reversal(_) => Some(Layer::Reversal),
-            Layered::Sampling(_) => Some(Layer::Sampling),
+            Layered::Reversal(_) => Layer::Reversal,
+            Layered::Sampling(_) => Layer::Sampling,
         }
     }
 
@@ -48,7 +45,6 @@ impl<L: Line> Layered<L> {
         ensures kept { result.1 ≡ kept_of self }
     {
         match self {
-            Layered::Bare(line) => (line, Kept::Nothing),
             Layered::Reversal(line) => (line.into_below(), Kept::Nothing),
             Layered::Sampling(line) => line.into_below(),
         }
@@ -63,7 +59,6 @@ impl<L: Line> Line for Layered<L> {
         ensures same { layer_on self.new ≡ layer_on self.old }
     {
         match self {
-            Layered::Bare(line) => line.take(),
             Layered::Reversal(line) => line.take(),
             Layered::Sampling(line) => line.take(),
         }

@@ -1,19 +1,32 @@
 // A record of either kind as a line.
-ghost use Rattle.std.specs.Prelude.{◌≡◌, ◌%◌, length, MatchResult};
+ghost use Rattle.std.specs.Prelude.{◌≡◌, ◌%◌, length, Some, MatchResult};
 ghost use Rattle.lines.specs.declared.refusal.RecordRefusal.TheVariants.{OddOctetCount};
 ghost use Rattle.stacks.specs.declared.record.RecordKind.TheVariants.{Characters as KindCharacters};
 ghost use Rattle.stacks.specs.Records.{marks_in, recorded};
+ghost use Rattle.stacks.specs.Texts.{kind_name};
 
 use lines::character_record::CharacterRecord;
 use lines::line::Line;
 use lines::mark::Mark;
 use lines::mark_record::MarkRecord;
 use lines::refusal::RecordRefusal;
+use std::fmt;
 
-#[derive(Clone, Copy)]
+#[derive(Clone, Copy, PartialEq, Eq, Debug)]
 pub enum RecordKind {
     Marks,
     Characters,
+}
+
+impl fmt::Display for RecordKind {
+    ghost output = { λ kind. Some (kind_name kind) };
+
+    fn fmt<W: fmt::Write>(&self, f: &mut fmt::Formatter<W>) -> fmt::Result {
+        f.write_str(match self {
+            RecordKind::Marks => "marks",
+            RecordKind::Characters => "characters",
+        })
+    }
 }
 
 #[derive(Drop)]

@@ -1,8 +1,7 @@
 // A line with up to two layers over it.
-ghost use Rattle.std.specs.Prelude.{◌≡◌, [], ◌∷◌, ◌++◌, length, Some, None, MatchResult};
-ghost use Rattle.std.specs.Option.{option_to_list};
-ghost use Rattle.stacks.specs.Layering.{layered, through};
-ghost use Rattle.stacks.specs.Stacks.{TookMarks, Uncovers, layers_on, stacked, uncovered};
+ghost use Rattle.std.specs.Prelude.{◌≡◌, [], ◌∷◌, length, Some, None, MatchResult};
+ghost use Rattle.stacks.specs.Layering.{through};
+ghost use Rattle.stacks.specs.Stacks.{TookMarks, Uncovers, layers_on, names_in, stacked, uncovered};
 ghost use Rattle.lines.specs.declared.sampling.Kept.TheVariants.{Nothing};
 ghost use Rattle.lines.specs.Taking.{Taken};
 
@@ -14,10 +13,11 @@ use lines::reversal::Reversed;
 use lines::sampling::{Kept, Sampled};
 use std::alloc::{AllocError, Global};
 
-// By the lowest layer, which may have one over it.
+// Two layers stand by the lower one's name, since a line says of a take only which marks are then to come.
 #[derive(Drop)]
 pub enum Stack<L> {
     Bare(L),
+    Single(Layered<L>),
     OverReversal(Layered<Reversed<L>>),
     OverSampling(Layered<Sampled<L>>),
 }
@@ -29,37 +29,26 @@ impl<L: Line> Stack<L> {
         ensures marks { MatchResult result (λ s. stacked L.Line.pending s ≡ through layer (stacked L.Line.pending self)) (λ s. s ≡ self) }
     {
         match self {
-            Stack::Bare(line) => match layer {
-                Layer::Reversal => Ok(Stack::OverReversal(Layered::Bare(Reversed::new(line)))),
-                Layer::Sampling => Ok(Stack::OverSampling(Layered::Bare(Sampled::new(line)))),
-            },
-            Stack::OverReversal(Layered::Bare(line)) => Ok(Stack::OverReversal(Layered::over(
-                layer, line,
-            ))),
-            Stack::OverSampling(Layered::Bare(line)) => Ok(Stack::OverSampling(Layered::over(
-                layer, line,
-            ))),
+            Stack::Bare(line) => Ok(Stack::Single(Layered::over(layer, line))),
+            Stack::Single(Layered::Reversal(line)) => {
+                Ok(Stack::OverReversal(Layered::over(layer, line)))
+            }
+            Stack::Single(Layered::Sampling(line)) => {
+                Ok(Stack::OverSampling(Layered::over(layer, line)))
+            }
             full => Err(full),
         }
     }
 
     // The names of the layers.
     pub fn layers(&self) -> Layers
-        ensures { option_to_list result.upper ++ option_to_list result.lower ≡ layers_on self.now }
+        ensures { names_in result ≡ layers_on self.now }
     {
         match self {
-            Stack::Bare(_) => Layers {
-                upper: None,
-                lower: None,
-            },
-            Stack::OverReversal(line) => Layers {
-                upper: line.layer(),
-                lower: Some(Layer::Reversal),
-            },
-            Stack::OverSampling(line) => Layers {
-                upper: line.layer(),
-                lower: Some(Layer::Sampling),
-            },
+            Stack::Bare(_) => Layers::Bare,
+            Stack::Single(line) => Layers::Single(line.layer()),
+            Stack::OverReversal(line) => Layers::Double(line.layer(), Layer::Reversal),
+            Stack::OverSampling(line) => Layers::Double(line.layer(), Layer::Sampling),
         }
     }
 
@@ -69,6 +58,7 @@ impl<L: Line> Stack<L> {
         ensures same { layers_on self.new ≡ layers_on self.old }
     {
         let mut marks = Vec::with_capacity(heap, usize::from(count))?;
+        // not collected from an iterator, which would take marks before it has the memory for all
         for taken in 0..count {
             let Some(mark) = self.take() else {
                 return Ok(marks);
@@ -85,21 +75,17 @@ impl<L: Line> Stack<L> {
     {
         match self {
             Stack::Bare(line) => Err(Stack::Bare(line)),
-            Stack::OverReversal(Layered::Bare(line)) => Ok((
-                Stack::Bare(line.into_below()),
-                Kept::Nothing,
-            )),
-            Stack::OverReversal(upper) => {
-                let (lower, kept) = upper.into_below();
-                Ok((Stack::OverReversal(Layered::Bare(lower)), kept))
-            }
-            Stack::OverSampling(Layered::Bare(line)) => {
+            Stack::Single(line) => {
                 let (below, kept) = line.into_below();
                 Ok((Stack::Bare(below), kept))
             }
-            Stack::OverSampling(upper) => {
-                let (lower, kept) = upper.into_below();
-                Ok((Stack::OverSampling(Layered::Bare(lower)), kept))
+            Stack::OverReversal(line) => {
+                let (below, kept) = line.into_below();
+                Ok((Stack::Single(Layered::Reversal(below)), kept))
+            }
+            Stack::OverSampling(line) => {
+                let (below, kept) = line.into_below();
+                Ok((Stack::Single(Layered::Sampling(below)), kept))
             }
         }
     }
@@ -114,6 +100,7 @@ impl<L: Line> Line for Stack<L> {
     {
         match self {
             Stack::Bare(line) => line.take(),
+            Stack::Single(line) => line.take(),
             Stack::OverReversal(line) => line.take(),
             Stack::OverSampling(line) => line.take(),
         }

@@ -1,8 +1,8 @@
 // Sets the line against the lab: a day's capture of each, heard by one receiver each, batch by batch.
 #![tactic(auto)]
 
-use anyhow::anyhow;
-use day::batches::{last_reading, next_row};
+use anyhow::{Context, anyhow};
+use day::batches::{Rows, last_reading};
 use day::entry::{Entry, Site};
 use day::layers::{Layers, hear_through};
 use ft2::format::Ft2;
@@ -11,16 +11,11 @@ use lines::character_record::CharacterRecord;
 use lines::mark_record::MarkRecord;
 use std::env::Args;
 use std::{env, fs};
-use text::Text;
-
-mod text;
 
 // The next word of the command line.
 fn word(args: &mut Args) -> anyhow::Result<String> {
-    match args.next() {
-        Some(word) => Ok(word),
-        None => Err(anyhow!("viscosity LINE-FILE LINE-LAYERS LAB-FILE LAB-LAYERS")),
-    }
+    args.next()
+        .context("viscosity LINE-FILE LINE-LAYERS LAB-FILE LAB-LAYERS")
 }
 
 // The octets of a capture, and the layers that it is heard through.
@@ -30,56 +25,42 @@ struct Capture {
     layers: Layers,
 }
 
-fn read_capture(rt: &HostRuntime, args: &mut Args) -> anyhow::Result<Capture> {
-    let heap = rt.alloc();
-    let file = word(args)?;
-    let layers = word(args)?;
-    let Some(layers) = Layers::named(layers.as_str()) else {
-        return Err(anyhow!(format!(in heap;
-            "{layers} is none of plain, reversed, sampled, reversed-sampled"
-        )?));
-    };
-    match fs::read(rt, file.as_str()) {
-        Ok(octets) => Ok(Capture { octets, layers }),
-        Err(why) => Err(anyhow!(format!(in heap; "{file}: {why}")?)),
+impl Capture {
+    // The capture that the next two words of the command line name.
+    fn read(rt: &HostRuntime, args: &mut Args) -> anyhow::Result<Capture> {
+        let file = word(args)?;
+        let layers = word(args)?;
+        let layers = layers
+            .as_str()
+            .parse::<Layers>()
+            .map_err(|why| anyhow!("{layers} is {why}"))?;
+        let octets = fs::read(rt, file.as_str()).map_err(|why| anyhow!("{file}: {why}"))?;
+        Ok(Capture { octets, layers })
     }
 }
 
 // The capture of the line: FT1.2 characters, with seven octets in a fixed frame.
 fn hear_line(rt: &HostRuntime, capture: &Capture) -> anyhow::Result<Vec<Entry>> {
-    let Ok(format) = Ft12::new(7) else {
-        return Err(anyhow!("the settings are refused"));
-    };
-    match CharacterRecord::new(capture.octets.as_slice()) {
-        Ok(record) => Ok(hear_through(rt.alloc(), Site::Line, format, capture.layers, record)?),
-        Err(_) => Err(anyhow!("the line's capture has an odd number of octets")),
-    }
+    let format = Ft12::new(7).context("the settings are refused")?;
+    let record = CharacterRecord::new(capture.octets.as_slice()).context(
+        "the line's capture has an odd number of octets",
+    )?;
+    Ok(hear_through(rt.alloc(), Site::Line, format, capture.layers, record)?)
 }
 
 // The capture of the lab: FT2 marks, with seven octets in a fixed frame.
 fn hear_lab(rt: &HostRuntime, capture: &Capture) -> anyhow::Result<Vec<Entry>> {
-    let Ok(format) = Ft2::new(7, 1) else {
-        return Err(anyhow!("the settings are refused"));
-    };
+    let format = Ft2::new(7, 1).context("the settings are refused")?;
     let record = MarkRecord::new(capture.octets.as_slice());
-    let entries = hear_through(rt.alloc(), Site::Lab, format, capture.layers, record)?;
-    Ok(entries)
+    Ok(hear_through(rt.alloc(), Site::Lab, format, capture.layers, record)?)
 }
 
 fn print_batches(rt: &HostRuntime, line: &[Entry], lab: &[Entry]) -> anyhow::Result<()> {
-    let mut after = 0;
-    for _ in 0..65_536u32 {
-        let Some(row) = next_row(line, lab, after) else {
-            break;
-        };
-        rt.println(Text(row))?;
-        after = row.batch;
+    for row in Rows::new(line, lab) {
+        println!(rt; "{row}")?;
     }
     match last_reading(line, None) {
-        Some(reading) => {
-            let batch = reading.batch();
-            println!(rt; "last line reading: batch {batch}, {reading}")?;
-        }
+        Some(reading) => println!(rt; "last line reading: batch {}, {reading}", reading.batch())?,
         None => println!(rt; "no line reading")?,
     }
     Ok(())
@@ -87,21 +68,13 @@ fn print_batches(rt: &HostRuntime, line: &[Entry], lab: &[Entry]) -> anyhow::Res
 
 // The frames of a side that show no reading, to be polled for anew.
 fn print_lost(rt: &HostRuntime, side: &str, entries: &[Entry]) -> anyhow::Result<()> {
-    let mut damaged = 0u64;
-    for entry in entries {
-        if let Entry::Damaged(_) = *entry {
-            damaged = damaged.saturating_add(1);
-        }
-    }
+    let damaged = entries
+        .iter()
+        .filter(|entry| matches!(entry, Entry::Damaged(_)))
+        .count();
     println!(rt; "{side}: {damaged} damaged, to be polled for anew")?;
-    for entry in entries {
-        match *entry {
-            Entry::Reading(_) => {}
-            other => {
-                let text = Text(other);
-                println!(rt; "  {text}")?;
-            }
-        }
+    for entry in entries.iter().filter(|entry| entry.reading().is_none()) {
+        println!(rt; "  {entry}")?;
     }
     Ok(())
 }
@@ -110,8 +83,8 @@ fn run(rt: &HostRuntime) -> anyhow::Result<()> {
     let mut args = env::args(rt)?;
     // the program's own name
     let _ = args.next();
-    let line = read_capture(rt, &mut args)?;
-    let lab = read_capture(rt, &mut args)?;
+    let line = Capture::read(rt, &mut args)?;
+    let lab = Capture::read(rt, &mut args)?;
     let line = hear_line(rt, &line)?;
     let lab = hear_lab(rt, &lab)?;
     print_batches(rt, line.as_slice(), lab.as_slice())?;

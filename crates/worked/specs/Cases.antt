@@ -1,16 +1,16 @@
 -- The cases worked by hand, gathered into one statement.
-use Rattle.std.specs.Prelude.{List, [], ◌∷◌, ◌++◌, ◌≡◌, ℕ, length, replicate, take}
+use Rattle.std.specs.Prelude.{List, ◌++◌, ◌≡◌, ℕ, length, replicate, take}
 use Rattle.lines.specs.Characters.{character}
 use Rattle.lines.specs.Entries.{entry}
 use Rattle.lines.specs.declared.character.Status.TheVariants.{ParityReversed}
 use Rattle.lines.specs.declared.mark.Mark.{Mark}
 use Rattle.formats.specs.Marks.{ones}
-use Rattle.formats.specs.Verdicts.{Cause}
 use Rattle.formats.specs.declared.fault.Layer.TheVariants as layer
 use Rattle.hearing.specs.Calls.{Brings}
 use Rattle.hearing.specs.Rules.{Hearer, Stage, holding, ready, waiting}
 use Rattle.hearing.specs.declared.answer.Ending.{Ending}
 use Rattle.hearing.specs.declared.answer.Ending.TheVariants as ending
+use Rattle.hearing.specs.declared.fault.ReceiverFault.{ReceiverFault}
 use Rattle.ft12_laws.specs.Faults.{ft12_cause}
 use Rattle.ft12_laws.specs.Reading.{ft12_model}
 use Rattle.ft12_laws.specs.Worked as ft12
@@ -25,7 +25,7 @@ abbrev pub at_stage : Stage → ℕ → Hearer
 at_stage stage run = record { stage = stage; run = run; buffer = replicate 255 0 }
 
 -- from a new FT1.2 receiver, or from one at a stage, the marks bring the ending and leave the receiver so
-abbrev pub Hears : Hearer → List Mark → Ending Ft12Fault → Hearer → Type 0
+abbrev pub Hears : Hearer → List Mark → Ending (ReceiverFault Ft12Fault) → Hearer → Type 0
 Hears from marks end to = Brings ft12_cause (ft12_model 2) from marks end to
 
 pub record AllWorked : Type 0 where

@@ -5,10 +5,11 @@ ghost use Rattle.checks.specs.Check.{check_octet};
 ghost use Rattle.checks.specs.Standing.{Stands};
 
 use crate::division::step;
+use crate::octet::octet_bits;
 use crate::register::Register;
 
 impl Register {
-    // No bits yet.
+    // No bits yet. Kept without Default, whose derive is refused beside a ghost field: by hand it is no plainer.
     pub fn new() -> Self
         ensures { Stands result [] }
     {
@@ -30,8 +31,8 @@ impl Register {
     pub fn take_octet(&mut self, octet: u8)
         ensures { (u : List Bool) → Stands self.old u → Stands self.new (u ++ octet_bits octet) }
     {
-        for k in (0..8u8).rev() {
-            self.take((octet >> k) & 1 == 1);
+        for bit in octet_bits(octet) {
+            self.take(bit);
         }
     }
 

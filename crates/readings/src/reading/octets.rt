@@ -19,7 +19,7 @@ impl Reading {
         if temperature > 2000 {
             return Err(NoReading::OutOfLimits(Part::Temperature));
         }
-        if viscosity < 1 || viscosity > 9_999_999 {
+        if !(1..=9_999_999).contains(&viscosity) {
             return Err(NoReading::OutOfLimits(Part::Viscosity));
         }
         Ok(Reading {
@@ -28,33 +28,33 @@ impl Reading {
             viscosity,
         })
     }
+}
 
-    // The reading that user octets are.
-    pub fn from_octets(octets: &[u8]) -> Result<Reading, NoReading>
-        ensures { MatchResult result (λ x. octets.now ≡ octets_of x.batch x.temperature x.viscosity) (λ e. Misfits octets.now e) }
-    {
-        let [b1, b0, t1, t0, v2, v1, v0] = octets else {
+// The reading that user octets are.
+impl TryFrom<&[u8]> for Reading {
+    type Error = NoReading;
+
+    ghost try_from_gives = { λ octets r. MatchResult r (λ x. octets.now ≡ octets_of x.batch x.temperature x.viscosity) (λ e. Misfits octets.now e) };
+
+    fn try_from(octets: &[u8]) -> Result<Reading, NoReading> {
+        let [b1, b0, t1, t0, v2, v1, v0] = *octets else {
             return Err(NoReading::WrongCount);
         };
-        let batch = u16::from(*b1) * 256 + u16::from(*b0);
-        let temperature = u16::from(*t1) * 256 + u16::from(*t0);
-        let viscosity = u32::from(*v2) * 65536 + u32::from(*v1) * 256 + u32::from(*v0);
+        let batch = u16::from_be_bytes([b1, b0]);
+        let temperature = u16::from_be_bytes([t1, t0]);
+        let viscosity = u32::from_be_bytes([0, v2, v1, v0]);
         Reading::new(batch, temperature, viscosity)
     }
+}
 
-    // The user octets that are the reading.
-    pub fn to_octets(&self) -> [u8; 7]
-        ensures octets { result ≡ octets_of self.now.batch self.now.temperature self.now.viscosity }
-        ensures read { (batch_in result ≡ self.now.batch) × (temperature_in result ≡ self.now.temperature) × (viscosity_in result ≡ self.now.viscosity) }
-    {
-        [
-            (self.batch / 256) as u8,
-            (self.batch % 256) as u8,
-            (self.temperature / 256) as u8,
-            (self.temperature % 256) as u8,
-            (self.viscosity / 65536) as u8,
-            (self.viscosity / 256 % 256) as u8,
-            (self.viscosity % 256) as u8,
-        ]
+// The user octets that are a reading.
+impl From<Reading> for [u8; 7] {
+    ghost from_gives = { λ x octets. (octets ≡ octets_of x.batch x.temperature x.viscosity) × (batch_in octets ≡ x.batch) × (temperature_in octets ≡ x.temperature) × (viscosity_in octets ≡ x.viscosity) };
+
+    fn from(reading: Reading) -> [u8; 7] {
+        let [b1, b0] = reading.batch.to_be_bytes();
+        let [t1, t0] = reading.temperature.to_be_bytes();
+        let [_, v2, v1, v0] = reading.viscosity.to_be_bytes();
+        [b1, b0, t1, t0, v2, v1, v0]
     }
 }

@@ -1,4 +1,4 @@
-use mathlib.Core.List.{◌∷◌, [], ◌++◌}
+use mathlib.Core.List.{◌++◌}
 use mathlib.Core.Path.{refl}
 use lib.ListN.{take}
 use Rattle.lines.specs.Characters.{character}

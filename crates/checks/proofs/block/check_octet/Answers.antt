@@ -1,5 +1,7 @@
-use Rattle.std.proofs.Common.{get_or, take, sym, ap, ◌∙◌, subst}
-use Rattle.std.proofs.lemmas.List.{take_more, take_all}
+use Rattle.std.proofs.Common.{◌≡◌, get_or, take, sym, ap, ◌∙◌, subst}
+use Rattle.std.proofs.lemmas.Grind.{common_steps}
+use Rattle.std.proofs.Common.{arith}
+use Rattle.std.proofs.lemmas.List.{take_more}
 use Rattle.checks.specs.Bits.{block_bits}
 use Rattle.checks.specs.Check.{Rule, check_octet}
 use Rattle.checks.specs.Standing.{Stands}
@@ -14,10 +16,10 @@ loop-octet-preserved c =
     let longer = ap block_bits (take_more block i 0 c.loop-octet-test.true) ∙ block_push (take i block) (get_or block i 0) in
     subst (Stands c.take_octet.new.self) (sym longer) (c.take_octet.ensures (block_bits (take i block)) c.loop-octet.invariant)
 
-pub returns : goal.returns
-returns c =
-    let block = c.args.block.now in
-    let i = c.loop-octet.octet-index in
-    let whole = ap block_bits (take_all i block c.loop-octet-test.false) in
-    let is = c.check.ensures (block_bits (take i block)) c.loop-octet.invariant ∙ ap check_octet whole in
-    record { octet = is; rule = subst (Rule (block_bits block)) (sym is) (check_rule (block_bits block)); worked = worked }
+pub returns-clause-rule : goal.returns-clause-rule
+returns-clause-rule c =
+    let is : c.check.result ≡ check_octet (block_bits c.args.block.now) = grind (arith, common_steps) in
+    subst (Rule (block_bits c.args.block.now)) (sym is) (check_rule (block_bits c.args.block.now))
+
+pub returns-clause-worked : goal.returns-clause-worked
+returns-clause-worked c = worked

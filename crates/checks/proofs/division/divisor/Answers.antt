@@ -1,7 +1,5 @@
-use Rattle.std.proofs.Common.{refl}
-use Rattle.checks.proofs.Distances.{degree}
 use Rattle.checks.proofs.Quotients.{division_law}
 use Rattle.checks.proofs.division.divisor.Goals as goal
 
-pub returns : goal.returns
-returns c = record { value = refl; degree = degree; law = division_law }
+pub returns-clause-law : goal.returns-clause-law
+returns-clause-law c = division_law

@@ -1,14 +1,14 @@
-use Rattle.std.proofs.Common.{◌+◌, drop, sym, ap, ◌∙◌}
-use Rattle.std.proofs.lemmas.List.{drop_all}
-use Rattle.day.specs.Batches.{least_above}
-use Rattle.day.proofs.Entries.{dropped}
+use Rattle.std.proofs.Common.{sym, ◌∙◌, nat_lt, rules, tests}
+use Rattle.std.proofs.lemmas.Iterator.{YieldsList-from_map, YieldsList-from_slice}
+use Rattle.std.proofs.lemmas.Iterator.Adapters.{option_map_id}
+use Rattle.std.proofs.lemmas.Iterator.Consumers.{YieldsList-at, YieldsList-from_filter, YieldsList-from_filter_map, min_from_yields_List}
+use Rattle.readings.specs.declared.reading.Reading.{Reading}
+use Rattle.day.specs.Batches.{reading_in}
+use Rattle.day.proofs.Chains.{least_above_chain}
 use Rattle.day.proofs.batches.next_batch.Goals as goal
 
-pub loop-entry-preserved : goal.loop-entry-preserved
-loop-entry-preserved c =
-    let es = c.args.entries.now in
-    let i = c.loop-entry.entry-index in
-    c.loop-entry.invariant ∙ ap (least_above c.args.after c.loop-entry.found) (dropped es i c.entry-item.result c.loop-entry-test.true c.entry-item.is) ∙ ap (λ o. least_above c.args.after o (drop (i + 1) es)) (sym c.lower_with-found.ensures)
-
 pub returns : goal.returns
-returns c = sym (c.loop-entry.invariant ∙ ap (least_above c.args.after c.loop-entry.found) (drop_all c.loop-entry.entry-index c.args.entries.now c.loop-entry-test.false))
+returns c =
+    sym (option_map_id c.min.result)
+    ∙ min_from_yields_List c.filter.result c.min.result c.min.ensures.ran (YieldsList-from_filter _ (nat_lt c.args.after) (YieldsList-at c.filter.ensures.source (YieldsList-from_map _ (λ (x : Reading). x.batch) (YieldsList-at c.map.ensures.source (YieldsList-from_filter_map _ reading_in (YieldsList-from_slice c.args.entries.now cc) c.filter_map.ensures.closure (λ x r q k. search (rules, tests)))) c.map.ensures.closure (λ x r q k. search (rules, tests)))) c.filter.ensures.closure (λ x b q k. search (rules, tests)))
+    ∙ sym (least_above_chain c.args.after c.args.entries.now)

@@ -1,5 +1,18 @@
-use Rattle.day.proofs.Turns.{decoded}
+use Rattle.std.proofs.Common.{◌≡◌, subst, arith, rules, tests}
+use Rattle.day.specs.Decoding.{Suits}
+use Rattle.day.specs.declared.entry.Site.TheVariants.{Lab}
 use Rattle.day.proofs.decode.decode.Goals as goal
 
-pub returns-in-Ok : goal.returns-in-Ok
-returns-in-Ok c = decoded c.args.site c.args.kind c.args.octets.now c.in-Ok.reading c.if-kind-ne1.false c.in-Ok.ensures c.at_site.result c.at_site.ensures
+pub returns-then-temperature-ne-BATH_TEMPERATURE : goal.returns-then-temperature-ne-BATH_TEMPERATURE
+returns-then-temperature-ne-BATH_TEMPERATURE c =
+    let x = c.in-Ok.reading in
+    let lab : c.args.site ≡ Lab = search (tests, rules) in (
+      omega arith,
+      (
+        x,
+        c.in-Ok.ensures,
+        λ suits.
+            let bath : x.temperature ≡ 400 = subst (λ site. Suits site x) lab suits in
+            absurd (c.if-temperature-ne-BATH_TEMPERATURE.true (omega arith)),
+      ),
+    )

@@ -1,24 +1,14 @@
-use Rattle.std.proofs.Common.{◌<◌, length, arith, rules}
-use Rattle.ft2.proofs.Filling.{bits_none, bits_room, bits_more, bits_all}
+use Rattle.std.proofs.Common.{◌≡◌, ℕ, ◌<◌, false, get_or, refl, ◌∙◌, arith, rules}
+use mir.Val.{bool_byte}
+use Rattle.ft2_laws.specs.Frames.{octet_marks}
+use Rattle.ft2.proofs.Filling.{octet_digits, put_part}
 use Rattle.ft2.proofs.marks.put_octet.Goals as goal
 
-pub loop-k-init : goal.loop-k-init
-loop-k-init c = bits_none c.args.octet c.args.at c.args.marks.now
-
--- there is room for the next mark
-room : (c : goal.In-loop-k) → c.loop-k.next < length c.loop-k.marks
-room c =
-    bits_room c.args.octet c.loop-k.k c.args.at c.loop-k.next (length c.loop-k.marks) c.args.marks.now c.loop-k.marks c.loop-k-test.true (omega (arith, c.requires, c.loop-k.auto.marks)) c.loop-k.invariant
-
-pub bounds-marks-next : goal.bounds-marks-next
-bounds-marks-next c = room c
-
-pub overflow_add-next : goal.overflow_add-next
-overflow_add-next c = let r = room c in search rules
-
-pub loop-k-preserved : goal.loop-k-preserved
-loop-k-preserved c =
-    bits_more c.args.octet c.loop-k.k c.args.at c.loop-k.next c.args.marks.now c.loop-k.marks c.loop-k-test.true (room c) c.loop-k.invariant
-
 pub returns : goal.returns
-returns c = bits_all c.args.octet c.loop-k.k c.args.at c.loop-k.next c.args.marks.now c.loop-k.marks (omega arith) c.loop-k.invariant
+returns c =
+    let o = c.args.octet in
+    let bits = c.octet_bits in
+    let items = c.map.ensures.items in
+    let each : (i : ℕ) → i < 8 → get_or c.map.result i 0 ≡ bool_byte (get_or bits.result i false) = λ i h. let (p, q, called) = items.at i false 0 h in search rules in
+    put_part c.args.at _ _ (octet_marks o) c.args.marks.now c.copy_from_slice.new.self (omega arith) refl
+    (c.copy_from_slice.ensures.after ∙ octet_digits o bits.result c.map.result bits.ensures items.long each)

@@ -1,6 +1,6 @@
 use Rattle.std.proofs.Common.{sym, arith}
-use Rattle.std.proofs.lemmas.List.{take_all}
+use Rattle.std.proofs.lemmas.List.{take-append-le}
 use Rattle.receiver.proofs.octets.UserOctets.first.Goals as goal
 
-pub returns-else-count-buffer : goal.returns-else-count-buffer
-returns-else-count-buffer c = sym (take_all c.args.count c.args.buffer.now (omega arith))
+pub returns : goal.returns
+returns c = λ rest. sym (take-append-le c.args.count c.args.frame.now rest (omega arith))

@@ -1,26 +1,45 @@
-use Rattle.std.proofs.Common.{ap, ◌∙◌}
+use Rattle.std.proofs.Common.{◌≡◌, subst, sym, ap, ◌∙◌, rules, tests}
+use Rattle.std.proofs.Math.Logic.{∥∥₁_map}
+use Rattle.lines.specs.declared.mark.Mark.TheVariants.{One}
 use Rattle.hearing.specs.Rules.{run_after}
-use Rattle.receiver.proofs.Taking.{takes_first, takes_open}
+use Rattle.receiver.proofs.Stages.{Idle, idle_empty, stands_resting}
+use Rattle.receiver.proofs.Taking.{empty_by, list_of_open, list_of_ready, takes_first, takes_open}
+use Rattle.receiver.specs.Stages.{ListKept}
+use Rattle.receiver.specs.declared.stage.OpenList.{OpenList}
+use Rattle.receiver.specs.declared.stage.Stage.TheVariants as stage
 use Rattle.receiver.proofs.receiver.Receiver.hear.Goals as goal
 
-pub returns-in_default : goal.returns-in_default
-returns-in_default g c =
+pub invariant_of-self : goal.invariant_of-self
+invariant_of-self g c =
     let self = c.args.self.now in
-    let model = g.F.ReadFormat.model in
-    let counts = c.run_after-run.ensures ∙ ap (λ n. run_after n self.run c.args.mark) c.gap-gap.ensures in
-    record {
-      loud = c.add.ensures.loud;
-      takes = takes_first g.F.Fault.Fault.cause model g.F.ReadFormat.stands self.format self.run c.run_after-run.result c.args.mark c.add.new.self c.args.buffer.now c.add.new.buffer c.add.result counts
-          self.stage c.in-Ready.is c.in_default.not-One c.add.ensures.judges;
-    }
+    let idle : Idle self.stage = subst Idle (sym c.in-Waiting.is) tt in
+    record { keeps = ∥∥₁_map self.keeps (λ k. (_, stands_resting g.F.ReadFormat.model g.F.ReadFormat.stands self.format c.resting-self.result c.gap-gap.result c.run_after-self.result (c.resting-self.ensures (g.F.ReadFormat.model self.format)) (idle_empty g.F.ReadFormat.model g.F.ReadFormat.stands self.format self.stage idle k))) }
 
-pub returns-in-Open : goal.returns-in-Open
-returns-in-Open g c =
+pub add-requires : goal.add-requires
+add-requires g c =
     let self = c.args.self.now in
-    let model = g.F.ReadFormat.model in
-    let counts = c.run_after-run.ensures ∙ ap (λ n. run_after n self.run c.args.mark) c.gap-gap.ensures in
-    record {
-      loud = c.add-in-Open.ensures.loud;
-      takes = takes_open g.F.Fault.Fault.cause model g.F.ReadFormat.stands self.format self.run c.run_after-run.result c.args.mark c.add-in-Open.new.self c.args.buffer.now c.add-in-Open.new.buffer c.add-in-Open.result counts
-          self.stage c.in-Open.marks c.in-Open.octets c.in-Open.is c.add-in-Open.ensures.judges;
-    }
+    let none = empty_by c.default.result c.default.ensures.0 c.default.ensures.1 in
+    let other : c.args.mark ≡ One → ⊥ = search (tests, rules) in
+    ∥∥₁_map self.keeps (list_of_ready self c.args.mark c.default.result none c.in-Ready.is other)
+
+pub add-requires-in-Open : goal.add-requires-in-Open
+add-requires-in-Open g c =
+    let self = c.args.self.now in
+    let at : (l : OpenList) → c.in-Open.list ≡ l → ∥ ListKept g.F.ReadFormat.model g.F.ReadFormat.stands self.format c.args.mark l ∥₁ =
+    λ l e. ∥∥₁_map self.keeps (list_of_open self c.args.mark l (c.in-Open.is ∙ ap stage.Open e))
+    in
+    at _ (search rules)
+
+pub returns-in-Ready-clause-takes : goal.returns-in-Ready-clause-takes
+returns-in-Ready-clause-takes g c =
+    let self = c.args.self.now in
+    let counts = c.run_after-self.ensures ∙ ap (λ n. run_after n self.run c.args.mark) c.gap-gap.ensures in
+    let none = empty_by c.default.result c.default.ensures.0 c.default.ensures.1 in
+    let other : c.args.mark ≡ One → ⊥ = search (tests, rules) in
+    λ rest. takes_first self c.args.mark c.run_after-self.result _ counts c.add.new.self _ _ c.add.result c.default.result none c.in-Ready.is other (c.add.ensures.judges rest)
+
+pub returns-in-Open-clause-takes : goal.returns-in-Open-clause-takes
+returns-in-Open-clause-takes g c =
+    let self = c.args.self.now in
+    let counts = c.run_after-self.ensures ∙ ap (λ n. run_after n self.run c.args.mark) c.gap-gap.ensures in
+    λ rest. takes_open self c.args.mark c.run_after-self.result _ counts c.add-in-Open.new.self _ _ c.add-in-Open.result _ (c.in-Open.is ∙ ap stage.Open (search rules)) (c.add-in-Open.ensures.judges rest)

@@ -1,0 +1,9 @@
+use Rattle.std.proofs.Common.{refl, inl, rules}
+use Rattle.desk.proofs.desk.Desk.obey.Goals as goal
+
+-- FT2 with a new receiver
+pub returns-in_ok-format-in-Ft2 : goal.returns-in_ok-format-in-Ft2
+returns-in_ok-format-in-Ft2 g c =
+    let made = c.in_ok-format-in-Ft2.ensures.made in
+    let new = c.new-in-Ft2 in
+    rw c.in-Ft2.is (inl (c.in_ok-format-in-Ft2.format.settings, made.0, made.1, search rules, (new.result, refl, (new.ensures.begun, new.ensures.same))), refl, refl)
