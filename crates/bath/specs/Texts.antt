@@ -1,8 +1,7 @@
--- What is printed where a result is not sent.
-use Rattle.std.specs.Prelude.{ℕ, List, codes}
-use Rattle.bath.specs.declared.send.Unsent.{Unsent}
-use Rattle.bath.specs.declared.send.Unsent.TheVariants.{Refused, NoMemory}
+-- What is told where a result is not sent.
+use Rattle.std.specs.Prelude.{Some, ◌⊎◌, codes}
+use Rattle.anyhow.specs.Error.{HasMessage}
+use Rattle.anyhow.specs.declared.error.Error.{Error}
 
-abbrev pub unsent_text : Unsent → List ℕ
-unsent_text (Refused why) = codes "the frame is refused"
-unsent_text NoMemory = codes "no memory"
+abbrev pub Unsent : Error → Type 0
+Unsent e = HasMessage (Some (codes "the frame is refused")) e ⊎ HasMessage (Some (codes "no memory")) e

@@ -27,7 +27,7 @@ fn run(rt: &HostRuntime) -> anyhow::Result<()> {
     Ok(())
 }
 
-// What went wrong is told in quotes.
+// What went wrong is told in quotes. It stands in each program: no crate is there for programs alone.
 fn main(rt: HostRuntime) -> anyhow::Result<()> {
     run(&rt).map_err(|why| anyhow!("\"{why}\""))
 }

@@ -1,53 +1,29 @@
 // Bath results in marks: a quiet gap, and the frame behind it.
-ghost use Rattle.std.specs.Prelude.{◌≡◌, ◌++◌, map, OnOk, Some, []};
+ghost use Rattle.std.specs.Prelude.{◌≡◌, ◌++◌, map, MatchResult, Some, [], codes};
+ghost use Rattle.anyhow.specs.Error.{HasMessage};
 ghost use Rattle.lines.specs.Records.{mark_octet};
 ghost use Rattle.formats.specs.Marks.{ones};
 ghost use Rattle.readings.specs.Octets.{octets_of};
-ghost use Rattle.bath.specs.Texts.{unsent_text};
+ghost use Rattle.bath.specs.Texts.{Unsent};
 
+use anyhow::Context;
 use formats::format::WriteFormat;
-use formats::refusal::WriteRefusal;
 use readings::reading::Reading;
-use std::alloc::{AllocError, Global};
-use std::error::Error;
-use std::fmt;
+use readings::reading::octets::READING_KIND;
+use std::alloc::Global;
 
 // The most marks that a frame or a gap has here.
 const MARKS: usize = 512;
 
-// Why a result is not sent.
-#[derive(Clone, Copy, Debug)]
-pub enum Unsent {
-    Refused(WriteRefusal),
-    NoMemory,
+// Appends octets to the marks.
+fn append(marks: &mut Vec<u8>, octets: &[u8]) -> anyhow::Result<()>
+    ensures { MatchResult result (λ _. marks.new.items ≡ marks.old.items ++ octets.now) (λ e. HasMessage (Some (codes "no memory")) e) }
+{
+    marks.extend_from_slice(octets).context("no memory")
 }
 
-impl From<WriteRefusal> for Unsent {
-    fn from(refusal: WriteRefusal) -> Unsent {
-        Unsent::Refused(refusal)
-    }
-}
-
-impl From<AllocError> for Unsent {
-    fn from(_e: AllocError) -> Unsent {
-        Unsent::NoMemory
-    }
-}
-
-impl fmt::Display for Unsent {
-    ghost output = { λ why. Some (unsent_text why) };
-
-    fn fmt<W: fmt::Write>(&self, f: &mut fmt::Formatter<W>) -> fmt::Result {
-        f.write_str(match self {
-            Unsent::Refused(_) => "the frame is refused",
-            Unsent::NoMemory => "no memory",
-        })
-    }
-}
-
-impl Error for Unsent {}
-
-// Gathers marks in a format; each gap and frame is written to the buffer first.
+// Gathers marks in a format; each gap and frame is written to the buffer first. Not shared with soak: the sizes differ,
+// and no crate is there for programs alone.
 #[derive(Drop)]
 pub struct Sender<W> {
     format: W,
@@ -74,23 +50,27 @@ impl<W: WriteFormat> Sender<W> {
     }
 
     // Puts the marks of a gap behind the marks so far.
-    pub fn put_gap(&mut self) -> Result<(), Unsent>
+    pub fn put_gap(&mut self) -> anyhow::Result<()>
         ensures format { self.new.format ≡ self.old.format }
-        ensures marks { OnOk result (self.new.marks.items ≡ self.old.marks.items ++ map mark_octet (ones (W.ReadFormat.model self.old.format).gap)) }
+        ensures marks { MatchResult result (λ _. self.new.marks.items ≡ self.old.marks.items ++ map mark_octet (ones (W.ReadFormat.model self.old.format).gap)) Unsent }
     {
-        let gap = self.format.write_gap(&mut self.buffer)?;
-        self.marks.extend_from_slice(&self.buffer[..gap])?;
-        Ok(())
+        let gap = self
+            .format
+            .write_gap(&mut self.buffer)
+            .context("the frame is refused")?;
+        append(&mut self.marks, &self.buffer[..gap])
     }
 
     // Puts the marks of a reading's frame behind the marks so far.
-    pub fn put_frame(&mut self, reading: Reading) -> Result<(), Unsent>
+    pub fn put_frame(&mut self, reading: Reading) -> anyhow::Result<()>
         ensures format { self.new.format ≡ self.old.format }
-        ensures marks { OnOk result (self.new.marks.items ≡ self.old.marks.items ++ map mark_octet ((W.ReadFormat.model self.old.format).frame 1 (octets_of reading.batch reading.temperature reading.viscosity))) }
+        ensures marks { MatchResult result (λ _. self.new.marks.items ≡ self.old.marks.items ++ map mark_octet ((W.ReadFormat.model self.old.format).frame 1 (octets_of reading.batch reading.temperature reading.viscosity))) Unsent }
     {
         let octets = <[u8; 7]>::from(reading);
-        let count = self.format.write(1, &octets, &mut self.buffer)?;
-        self.marks.extend_from_slice(&self.buffer[..count])?;
-        Ok(())
+        let count = self
+            .format
+            .write(READING_KIND, &octets, &mut self.buffer)
+            .context("the frame is refused")?;
+        append(&mut self.marks, &self.buffer[..count])
     }
 }

@@ -28,6 +28,10 @@ module _ (text rest : List ℕ) (r : Result Command Misread) where
       MatchResult-weaker r h (λ c k. subst (Reads text) (sym k.1) (rest, first, k.2))
       (λ e k. elim k [ inl none ↦ subst (Misreads text) (sym none) tt | inr bad ↦ subst (Misreads text) (sym bad.1) (kind, rest, first, bad.2) ])
 
+-- an order of one word, by what is said of that word and of the words behind it
+pub alone_said : {text word : List ℕ} (o : Order) (r : Result Command Misread) (bs name rest : List ℕ) → bs ≡ text → name ≡ word → (gap : List ℕ) × (bs ≡ gap ++ (name ++ rest)) × (0 < length name) × NoCharPasses is_not_whitespace gap × NoCharPasses is_whitespace name × ((more : List ℕ) × EmptyOrStartsWithPassing is_whitespace rest more) → (First text word rest → Says text o rest) → MatchResult r (λ c. (c ≡ Work o) × Blank rest) (λ e. Extra rest e) → MatchResult r (λ c. Reads text c) (λ e. Misreads text e)
+alone_said {text} {word} o r bs name rest e f cut says h = said_alone text rest r o (says (named bs name rest e f cut)) h
+
 -- no number behind the word, or one word too many
 pub said_no_take : (text rest : List ℕ) (e : Misread) → First text (codes "take") rest → Miscounts rest e → Misreads text e
 said_no_take text rest e first k =

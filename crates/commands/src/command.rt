@@ -33,6 +33,7 @@ pub enum Order {
 
 impl Command {
     // The command that a line of text says.
+    // not `FromStr`, which gets no memory
     pub fn read(heap: Global, text: &str) -> Result<Command, Misread<'_>>
         ensures { MatchResult result (λ c. Reads text.now c) (λ e. Misreads text.now e) }
     {

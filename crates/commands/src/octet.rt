@@ -11,6 +11,7 @@ fn hex_digit(symbol: u8) -> Option<u8>
 }
 
 // The octet that a word of two hex digits writes.
+// not `u8::from_str_radix`, which takes a sign and a single digit
 pub fn octet(word: &str) -> Option<u8>
     ensures { result ≡ octet_of word.now }
 {

@@ -1,13 +1,20 @@
 // The console: each line of standard input is a command, and is answered by one line.
 #![tactic(auto)]
 
+ghost use Rattle.std.specs.Prelude.{◌≡◌, [], MatchResult};
+ghost use Rattle.lines.specs.declared.refusal.RecordRefusal.TheVariants.{OddOctetCount};
+ghost use Rattle.stacks.specs.declared.record.RecordKind.TheVariants.{Marks};
+ghost use Rattle.stacks.specs.Records.{Suits, marks_in, recorded};
+
 use commands::command::Command;
 use commands::work::obey;
 use desk::desk::Desk;
 use desk::reading::read;
 use desk::report::Report;
+use lines::refusal::RecordRefusal;
 use stacks::record::{Record, RecordKind};
 use stacks::stack::Stack;
+use std::alloc::Global;
 use std::fmt::Display;
 use std::io;
 use std::io::{BufRead, BufReader, Stdin};
@@ -18,6 +25,35 @@ use std::str::from_utf8;
 struct Choice {
     kind: RecordKind,
     octets: Vec<u8>,
+    ghost suits: { Suits kind octets.items },
+}
+
+impl Choice {
+    // A mark record of no octets.
+    fn empty(heap: Global) -> Choice
+        ensures kind { result.kind ≡ Marks }
+        ensures octets { result.octets.items ≡ [] }
+    {
+        Choice {
+            kind: RecordKind::Marks,
+            octets: Vec::new(heap),
+        }
+    }
+
+    // A record of a kind, where it is not refused.
+    fn new(kind: RecordKind, octets: Vec<u8>) -> Result<Choice, RecordRefusal>
+        ensures { MatchResult result (λ c. (c.kind ≡ kind) × (c.octets ≡ octets)) (λ e. e ≡ OddOctetCount) }
+    {
+        Record::new(kind, octets.as_slice())?;
+        Ok(Choice { kind, octets })
+    }
+
+    // The line that gives the marks of the record.
+    fn record(&self) -> Record<'_>
+        ensures { recorded result ≡ marks_in self.now.kind self.now.octets.items }
+    {
+        Record::new(self.kind, self.octets.as_slice()).unwrap()
+    }
 }
 
 // Prints an answer, or why there is none.
@@ -35,12 +71,11 @@ fn say<T: Display + Drop, E: Display + Drop>(
 fn serve(
     rt: &HostRuntime,
     input: &mut BufReader<Stdin>,
-    kind: RecordKind,
-    record: Record<'_>,
+    choice: &Choice,
     desk: &mut Desk,
 ) -> io::Result<Option<Choice>> {
     let heap = rt.alloc();
-    let mut line = Stack::Bare(record);
+    let mut line = Stack::Bare(choice.record());
     // counted, since every loop is proved to end and an input may be of any length
     for _ in 0..u64::MAX {
         let mut typed = Vec::new(heap);
@@ -67,15 +102,15 @@ fn serve(
             continue;
         }
         match Command::read(heap, text) {
-            Ok(Command::Choose(kind, octets)) => match Record::new(kind, octets.as_slice()) {
-                Ok(_) => {
-                    println!(rt; "ok {kind}, {} octets", octets.len())?;
-                    return Ok(Some(Choice { kind, octets }));
+            Ok(Command::Choose(kind, octets)) => match Choice::new(kind, octets) {
+                Ok(next) => {
+                    println!(rt; "ok {kind}, {} octets", next.octets.len())?;
+                    return Ok(Some(next));
                 }
                 Err(refusal) => println!(rt; "refused {}: {refusal}", refusal.number())?,
             },
             Ok(Command::Work(order)) => {
-                let (answer, next) = obey(heap, kind, line, order);
+                let (answer, next) = obey(heap, choice.kind, line, order);
                 line = next;
                 say(rt, answer)?;
             }
@@ -87,18 +122,11 @@ fn serve(
 
 fn main(rt: HostRuntime) -> io::Result<()> {
     let mut input = BufReader::new(rt.alloc(), rt.stdin())?;
-    let mut choice = Choice {
-        kind: RecordKind::Marks,
-        octets: Vec::new(rt.alloc()),
-    };
+    let mut choice = Choice::empty(rt.alloc());
     let mut desk = Desk::new(rt.alloc())?;
     // counted for the same reason
     for _ in 0..u64::MAX {
-        // what was chosen is no record that is refused
-        let Ok(record) = Record::new(choice.kind, choice.octets.as_slice()) else {
-            break;
-        };
-        let Some(next) = serve(&rt, &mut input, choice.kind, record, &mut desk)? else {
+        let Some(next) = serve(&rt, &mut input, &choice, &mut desk)? else {
             break;
         };
         choice = next;

@@ -1,8 +1,6 @@
 -- The lowest batch above a number is above it.
-use Rattle.std.proofs.Common.{◌≡◌, ℕ, ◌<◌, Bool, true, false, cond, List, [], ◌∷◌, Some, None, Option, nat_lt, refl, arith, rules, tests, IfSome}
-use Rattle.day.specs.Batches.{least_above, lower}
-use Rattle.day.specs.declared.entry.Entry.{Entry}
-use Rattle.day.specs.declared.entry.Entry.TheVariants as entry
+use Rattle.std.proofs.Common.{◌≡◌, ℕ, ◌<◌, Bool, true, false, cond, List, [], ◌∷◌, Some, None, Option, Ok, Err, nat_lt, refl, arith, rules, tests, IfSome}
+use Rattle.day.specs.Batches.{Entry, least_above, lower}
 
 lower_above : (after : ℕ) (a b : Option ℕ) → IfSome a (λ batch. after < batch) → IfSome b (λ batch. after < batch) → IfSome (lower a b) (λ batch. after < batch)
 lower_above after None b h k = k
@@ -17,9 +15,8 @@ taken_above after batch found false e h = h
 
 least_is_above : (after : ℕ) (found : Option ℕ) (es : List Entry) → IfSome found (λ b. after < b) → IfSome (least_above after found es) (λ b. after < b)
 least_is_above after found [] h = h
-least_is_above after found (entry.Reading x ∷ es) h = least_is_above after (cond (nat_lt after x.batch) (lower found (Some x.batch)) found) es (taken_above after x.batch found (nat_lt after x.batch) refl h)
-least_is_above after found (entry.NoReading why ∷ es) h = least_is_above after found es h
-least_is_above after found (entry.Damaged fault ∷ es) h = least_is_above after found es h
+least_is_above after found (Ok x ∷ es) h = least_is_above after (cond (nat_lt after x.batch) (lower found (Some x.batch)) found) es (taken_above after x.batch found (nat_lt after x.batch) refl h)
+least_is_above after found (Err lost ∷ es) h = least_is_above after found es h
 
 pub either_is_above : (line lab : List Entry) (after : ℕ) → IfSome (lower (least_above after None line) (least_above after None lab)) (λ b. after < b)
 either_is_above line lab after = lower_above after (least_above after None line) (least_above after None lab) (least_is_above after None line tt) (least_is_above after None lab tt)

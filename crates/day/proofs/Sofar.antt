@@ -7,8 +7,8 @@ use Rattle.formats.specs.declared.format.ReadFormat.{Ghosts as Reads}
 use Rattle.hearing.specs.Rules.{Hearer}
 use Rattle.receiver.specs.Places.{At, model_of}
 use Rattle.receiver.specs.declared.receiver.Receiver.{Receiver}
+use Rattle.day.specs.Batches.{Entry}
 use Rattle.day.specs.Hearing.{Free, Outcome, Told, begin, run}
-use Rattle.day.specs.declared.entry.Entry.{Entry}
 use Rattle.day.specs.declared.entry.Site.{Site}
 use Rattle.day.proofs.Turns.{Turned}
 

@@ -1,5 +1,5 @@
 -- One listen, and what is noted of it.
-use Rattle.std.proofs.Common.{◌≡◌, ℕ, List, [], ◌∷◌, ◌++◌, length, take, sym, ap, ◌∙◌, subst, arith}
+use Rattle.std.proofs.Common.{◌≡◌, ℕ, List, [], ◌∷◌, ◌++◌, length, take, Err, sym, ap, ◌∙◌, subst, arith}
 use Rattle.lines.specs.declared.mark.Mark.{Mark}
 use Rattle.formats.specs.Laws.{Model}
 use Rattle.formats.specs.Verdicts.{Cause}
@@ -16,10 +16,10 @@ use Rattle.hearing.specs.declared.fault.ReceiverFault.{ReceiverFault}
 use Rattle.hearing.specs.declared.fault.ToldFault.{ToldFault}
 use Rattle.receiver.specs.Places.{At, kept, model_of, state_kept}
 use Rattle.receiver.specs.declared.receiver.Receiver.{Receiver}
+use Rattle.day.specs.Batches.{Entry}
 use Rattle.day.specs.Decoding.{Decoded}
 use Rattle.day.specs.Hearing.{Free, Handed, Outcome, Told, damaged, run, sound}
-use Rattle.day.specs.declared.entry.Entry.{Entry}
-use Rattle.day.specs.declared.entry.Entry.TheVariants as entry
+use Rattle.day.specs.declared.entry.Lost.TheVariants as lost
 use Rattle.day.specs.declared.entry.Site.{Site}
 use Rattle.day.proofs.Runs.{Came, came, released}
 
@@ -64,10 +64,10 @@ module _ {R E : Type 0} {cause : E → Cause} {at : R → List ℕ → Hearer �
     each = λ a here free. let n = comes ending.Spent e a here free in (n.0, n.1, n.2.0, ([], n.2.1, tt));
   }
 
-  pub faulty : (site : Site) (why : ReceiverFault E) → heard.ending ≡ ending.Fault why → (d : ToldFault) → d ≡ told_fault cause why → Turned site at model r r' before after buffer buffer' (entry.Damaged d ∷ [])
+  pub faulty : (site : Site) (why : ReceiverFault E) → heard.ending ≡ ending.Fault why → (d : ToldFault) → d ≡ told_fault cause why → Turned site at model r r' before after buffer buffer' (Err (lost.Damaged d) ∷ [])
   faulty site why e d p = record {
     same_format = l.same_format;
-    each = λ a here free. let n = comes (ending.Fault why) e a here free in (n.0, n.1, n.2.0, (damaged (cause why.fault) why.place ∷ [], n.2.1, (ap entry.Damaged p, tt)));
+    each = λ a here free. let n = comes (ending.Fault why) e a here free in (n.0, n.1, n.2.0, (damaged (cause why.fault) why.place ∷ [], n.2.1, (ap (λ x. Err (lost.Damaged x)) p, tt)));
   }
 
   -- a frame, which is then decoded and released

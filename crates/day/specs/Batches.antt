@@ -1,15 +1,17 @@
 -- The readings of a day by batch.
-use Rattle.std.specs.Prelude.{ℕ, min, Bool, true, cond, List, [], ◌∷◌, ℤ, pos, ◌-ℤ◌, Some, None, Option, ◌==◌, nat_lt}
+use Rattle.std.specs.Prelude.{ℕ, min, Bool, true, cond, List, [], ◌∷◌, ℤ, pos, ◌-ℤ◌, Some, None, Option, Ok, Err, Result, ◌==◌, nat_lt}
 use Rattle.readings.specs.declared.reading.Reading.{Reading}
 use Rattle.day.specs.declared.batches.Row.{Row}
-use Rattle.day.specs.declared.entry.Entry.{Entry}
-use Rattle.day.specs.declared.entry.Entry.TheVariants as entry
+use Rattle.day.specs.declared.entry.Lost.{Lost}
+
+-- the reading of a frame, or why it shows none
+abbrev pub Entry : Type 0
+Entry = Result Reading Lost
 
 -- the reading of an entry, if it has one
 abbrev pub reading_in : Entry → Option Reading
-reading_in (entry.Reading x) = Some x
-reading_in (entry.NoReading why) = None
-reading_in (entry.Damaged fault) = None
+reading_in (Ok x) = Some x
+reading_in (Err lost) = None
 
 -- a reading of the batch, or any reading
 abbrev pub is_wanted : Option ℕ → Reading → Bool
@@ -18,9 +20,8 @@ is_wanted (Some batch) x = x.batch == batch
 
 -- the reading that counts after one entry more
 abbrev pub after_entry : Option ℕ → Option Reading → Entry → Option Reading
-after_entry batch found (entry.Reading x) = cond (is_wanted batch x) (Some x) found
-after_entry batch found (entry.NoReading why) = found
-after_entry batch found (entry.Damaged fault) = found
+after_entry batch found (Ok x) = cond (is_wanted batch x) (Some x) found
+after_entry batch found (Err lost) = found
 
 -- the last reading of the batch, or of all
 abbrev pub last_of : Option ℕ → Option Reading → List Entry → Option Reading
@@ -34,9 +35,8 @@ lower (Some a) None = Some a
 lower (Some a) (Some b) = Some (min a b)
 
 abbrev pub lower_entry : ℕ → Option ℕ → Entry → Option ℕ
-lower_entry after found (entry.Reading x) = cond (nat_lt after x.batch) (lower found (Some x.batch)) found
-lower_entry after found (entry.NoReading why) = found
-lower_entry after found (entry.Damaged fault) = found
+lower_entry after found (Ok x) = cond (nat_lt after x.batch) (lower found (Some x.batch)) found
+lower_entry after found (Err lost) = found
 
 -- the lowest batch above a number of which there is a reading
 abbrev pub least_above : ℕ → Option ℕ → List Entry → Option ℕ

@@ -1,10 +1,9 @@
 -- What a sound frame says.
-use Rattle.std.specs.Prelude.{◌≡◌, ℕ, List, ◌≢◌}
+use Rattle.std.specs.Prelude.{◌≡◌, ℕ, List, ◌≢◌, Ok, Err}
 use Rattle.readings.specs.Octets.{Misfits, octets_of}
 use Rattle.readings.specs.declared.reading.Reading.{Reading}
-use Rattle.day.specs.declared.entry.Entry.{Entry}
-use Rattle.day.specs.declared.entry.Entry.TheVariants as entry
-use Rattle.day.specs.declared.entry.Odd.TheVariants.{Kind, Octets, NotBath}
+use Rattle.day.specs.Batches.{Entry}
+use Rattle.day.specs.declared.entry.Lost.TheVariants.{Kind, Octets, NotBath, Damaged}
 use Rattle.day.specs.declared.entry.Site.{Site}
 use Rattle.day.specs.declared.entry.Site.TheVariants.{Line, Lab}
 
@@ -19,8 +18,8 @@ Spells octets x = octets ≡ octets_of x.batch x.temperature x.viscosity
 
 -- what a sound frame of a kind with these user octets says at a site
 abbrev pub Decoded : Site → ℕ → List ℕ → Entry → Type 0
-Decoded site kind octets (entry.Reading x) = (kind ≡ 1) × Spells octets x × Suits site x
-Decoded site kind octets (entry.NoReading (Kind k)) = (k ≡ kind) × (kind ≢ 1)
-Decoded site kind octets (entry.NoReading (Octets e)) = (kind ≡ 1) × Misfits octets e
-Decoded site kind octets (entry.NoReading NotBath) = (kind ≡ 1) × ((x : Reading) × Spells octets x × (Suits site x → ⊥))
-Decoded site kind octets (entry.Damaged d) = ⊥
+Decoded site kind octets (Ok x) = (kind ≡ 1) × Spells octets x × Suits site x
+Decoded site kind octets (Err (Kind k)) = (k ≡ kind) × (kind ≢ 1)
+Decoded site kind octets (Err (Octets e)) = (kind ≡ 1) × Misfits octets e
+Decoded site kind octets (Err NotBath) = (kind ≡ 1) × ((x : Reading) × Spells octets x × (Suits site x → ⊥))
+Decoded site kind octets (Err (Damaged d)) = ⊥

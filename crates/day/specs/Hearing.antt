@@ -1,12 +1,12 @@
 -- What listening to a whole capture comes to, mark by mark, where each frame is released at once.
-use Rattle.std.specs.Prelude.{◌≡◌, ℕ, List, [], ◌∷◌, ◌++◌, take, replicate}
+use Rattle.std.specs.Prelude.{◌≡◌, ℕ, List, [], ◌∷◌, ◌++◌, Err, take, replicate}
 use Rattle.lines.specs.declared.mark.Mark.{Mark}
 use Rattle.formats.specs.Laws.{Model}
 use Rattle.formats.specs.Verdicts.{Cause}
 use Rattle.hearing.specs.Rules.{Event, Hearer, Stage, fault, frame, hears, holding, nothing, ready, waiting, within}
+use Rattle.day.specs.Batches.{Entry}
 use Rattle.day.specs.Decoding.{Decoded}
-use Rattle.day.specs.declared.entry.Entry.{Entry}
-use Rattle.day.specs.declared.entry.Entry.TheVariants.{Damaged}
+use Rattle.day.specs.declared.entry.Lost.TheVariants.{Damaged}
 use Rattle.day.specs.declared.entry.Site.{Site}
 
 -- a frame was sound, of a kind with its user octets; or it was damaged, with the cause and the place
@@ -37,7 +37,7 @@ begin = record { stage = waiting; run = 0; buffer = replicate 255 0 }
 -- an entry tells an outcome
 abbrev pub Tells : Site → Outcome → Entry → Type 0
 Tells site (sound kind octets) e = Decoded site kind octets e
-Tells site (damaged cause place) e = e ≡ Damaged (record { number = cause.number; layer = cause.layer; place = place })
+Tells site (damaged cause place) e = e ≡ Err (Damaged (record { number = cause.number; layer = cause.layer; place = place }))
 
 -- the entries tell the outcomes, one each and in their order
 abbrev pub Told : Site → List Outcome → List Entry → Type 0

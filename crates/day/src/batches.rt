@@ -27,7 +27,7 @@ pub fn last_reading(entries: &[Entry], batch: Option<u16>) -> Option<Reading>
 {
     entries
         .iter()
-        .filter_map(|entry| entry.reading())
+        .filter_map(|entry| entry.ok())
         .filter(|reading| wanted(batch, *reading))
         .last()
 }
@@ -38,7 +38,7 @@ pub fn next_batch(entries: &[Entry], after: u16) -> Option<u16>
 {
     entries
         .iter()
-        .filter_map(|entry| entry.reading())
+        .filter_map(|entry| entry.ok())
         .map(|reading| reading.batch())
         .filter(|batch| after < *batch)
         .min()
@@ -78,7 +78,7 @@ impl Row {
     }
 }
 
-// The rows of a day, in the order of their batches.
+// The rows of a day, in the order of their batches. No map of rows: it would need memory, which `next_row` doesn't.
 #[derive(Drop)]
 pub struct Rows<'a> {
     line: &'a [Entry],

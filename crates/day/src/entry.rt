@@ -1,6 +1,6 @@
 // What was heard of each frame.
 ghost use Rattle.std.specs.Prelude.{◌≡◌};
-ghost use Rattle.day.specs.Batches.{reading_in};
+ghost use Rattle.day.specs.declared.entry.Lost.TheVariants.{Octets};
 
 use hearing::fault::ToldFault;
 use readings::reading::Reading;
@@ -13,32 +13,25 @@ pub enum Site {
     Lab,
 }
 
-// Why a sound frame holds no reading.
+// Why a frame shows no reading.
 #[derive(Clone, Copy)]
-pub enum Odd {
+pub enum Lost {
     // readings travel in frames of kind 1
     Kind(u8),
     Octets(NoReading),
     // the bath is at 40.0 degrees
     NotBath,
-}
-
-#[derive(Clone, Copy)]
-pub enum Entry {
-    Reading(Reading),
-    NoReading(Odd),
-    // a damaged frame: its fault, and the number of the mark at which that showed
+    // the frame was damaged: its fault, and the number of the mark at which that showed
     Damaged(ToldFault),
 }
 
-impl Entry {
-    // The reading, where the frame was sound and held one.
-    pub fn reading(&self) -> Option<Reading>
-        ensures { result ≡ reading_in self.now }
-    {
-        match *self {
-            Entry::Reading(reading) => Some(reading),
-            Entry::NoReading(_) | Entry::Damaged(_) => None,
-        }
+// The reading of a frame, or why it shows none.
+pub type Entry = Result<Reading, Lost>;
+
+impl From<NoReading> for Lost {
+    ghost from_gives = { λ why lost. lost ≡ Octets why };
+
+    fn from(why: NoReading) -> Lost {
+        Lost::Octets(why)
     }
 }

@@ -5,7 +5,7 @@ ghost use Rattle.receiver.specs.Places.{At, model_of, standing_of};
 ghost use Rattle.day.specs.Hearing.{Handed, Told, begin, run};
 
 use crate::decode::decode;
-use crate::entry::{Entry, Site};
+use crate::entry::{Entry, Lost, Site};
 use formats::format::ReadFormat;
 use hearing::answer::Ending;
 use lines::line::Line;
@@ -47,7 +47,7 @@ where
         let entry = match heard.ending {
             Ending::Empty => return Ok(entries),
             Ending::Spent => continue,
-            Ending::Fault(fault) => Entry::Damaged(fault.into()),
+            Ending::Fault(fault) => Err(Lost::Damaged(fault.into())),
             Ending::Frame { kind, .. } => held(site, &mut receiver, kind, &buffer),
         };
         entries.push(entry)?;

@@ -56,6 +56,7 @@ impl FromStr for Layers {
 }
 
 // Listens to a line through the layers until it is empty.
+// A match: the merge gate lets no function hand out a `dyn` line.
 pub fn hear_through<F: ReadFormat + Drop, L: Line + Drop>(
     heap: Global,
     site: Site,

@@ -1,9 +1,9 @@
-// Rows and entries in text.
+// Sites, rows and lost frames in text.
 ghost use Rattle.std.specs.Prelude.{Some};
-ghost use Rattle.day.specs.Texts.{difference_text, entry_text, odd_text, row_text, side_text};
+ghost use Rattle.day.specs.Texts.{difference_text, lost_text, row_text, side_text, site_text};
 
 use crate::batches::Row;
-use crate::entry::{Entry, Odd};
+use crate::entry::{Lost, Site};
 use readings::reading::Reading;
 use readings::text::Hundredths;
 use std::fmt;
@@ -21,20 +21,31 @@ impl fmt::Display for Difference {
     }
 }
 
-// The reading of a side, or that there is none.
+impl fmt::Display for Site {
+    ghost output = { λ site. Some (site_text site) };
+
+    fn fmt<W: fmt::Write>(&self, f: &mut fmt::Formatter<W>) -> fmt::Result {
+        f.write_str(match self {
+            Site::Line => "line",
+            Site::Lab => "lab",
+        })
+    }
+}
+
+// The reading of a site, or that there is none.
 #[derive(Clone, Copy)]
 struct Side {
-    name: &'static str,
+    site: Site,
     reading: Option<Reading>,
 }
 
 impl fmt::Display for Side {
-    ghost output = { λ side. Some (side_text side.name.now side.reading) };
+    ghost output = { λ side. Some (side_text side.site side.reading) };
 
     fn fmt<W: fmt::Write>(&self, f: &mut fmt::Formatter<W>) -> fmt::Result {
         match self.reading {
-            Some(reading) => write!(f, "{} {reading}", self.name),
-            None => write!(f, "no {} reading", self.name),
+            Some(reading) => write!(f, "{} {reading}", self.site),
+            None => write!(f, "no {} reading", self.site),
         }
     }
 }
@@ -44,11 +55,11 @@ impl fmt::Display for Row {
 
     fn fmt<W: fmt::Write>(&self, f: &mut fmt::Formatter<W>) -> fmt::Result {
         let line = Side {
-            name: "line",
+            site: Site::Line,
             reading: self.line,
         };
         let lab = Side {
-            name: "lab",
+            site: Site::Lab,
             reading: self.lab,
         };
         write!(f, "batch {}: {line}, {lab}", self.batch)?;
@@ -59,27 +70,16 @@ impl fmt::Display for Row {
     }
 }
 
-impl fmt::Display for Odd {
-    ghost output = { λ why. Some (odd_text why) };
+// What is wrong with a frame.
+impl fmt::Display for Lost {
+    ghost output = { λ lost. Some (lost_text lost) };
 
     fn fmt<W: fmt::Write>(&self, f: &mut fmt::Formatter<W>) -> fmt::Result {
         match *self {
-            Odd::Kind(kind) => write!(f, "a frame of kind {kind}"),
-            Odd::Octets(why) => write!(f, "{why}"),
-            Odd::NotBath => f.write_str("the bath is at 40.0 °C"),
-        }
-    }
-}
-
-// The reading of a frame, or what is wrong with it.
-impl fmt::Display for Entry {
-    ghost output = { λ e. Some (entry_text e) };
-
-    fn fmt<W: fmt::Write>(&self, f: &mut fmt::Formatter<W>) -> fmt::Result {
-        match *self {
-            Entry::Reading(reading) => write!(f, "{reading}"),
-            Entry::NoReading(why) => write!(f, "no reading: {why}"),
-            Entry::Damaged(fault) => write!(
+            Lost::Kind(kind) => write!(f, "no reading: a frame of kind {kind}"),
+            Lost::Octets(why) => write!(f, "no reading: {why}"),
+            Lost::NotBath => f.write_str("no reading: the bath is at 40.0 °C"),
+            Lost::Damaged(fault) => write!(
                 f,
                 "damaged: fault {}, layer {}, at mark {}",
                 fault.number, fault.layer, fault.place

@@ -12,6 +12,7 @@ use hearing::refusal::ReceiverRefusal;
 use std::alloc::AllocError;
 use std::fmt;
 
+// counts and no slices, since of a desk that its answer borrows no contract could say what it then holds
 #[derive(Clone, Copy, PartialEq, Eq, Debug)]
 pub enum DeskAnswer {
     // FT1.2 was chosen: its fixed length, its gap and its distance

@@ -1,11 +1,11 @@
 // The desk: a format with its receiver, a mark buffer and a frame buffer.
 ghost use Rattle.std.specs.Prelude.{◌≡◌, replicate, IfOk, None};
 ghost use Rattle.desk.specs.Hearings.{AtHearing};
-ghost use Rattle.desk.specs.Orders.{Numbering, Obeyed, Simply};
+ghost use Rattle.desk.specs.Orders.{Obeyed};
 
 use crate::answer::{DeskAnswer, Undone};
 use crate::hearings::{Buffers, Call, Hearing};
-use crate::order::{DeskOrder, Numbered, Simple};
+use crate::order::DeskOrder;
 use formats::format::ReadFormat;
 use ft2::format::Ft2;
 use ft12::format::Ft12;
@@ -67,8 +67,15 @@ impl Desk {
         ensures { Obeyed L.Line.pending order self.old self.new line.old line.new result }
     {
         match order {
-            DeskOrder::Simple(order) => self.obey_simple(line, order),
-            DeskOrder::Numbered(order, number) => self.obey_numbered(heap, line, order, number),
+            DeskOrder::Ft12(fixed_length) => {
+                let format = Ft12::new(fixed_length)?;
+                self.hearing = Some(Hearing::Ft12(Receiver::new(format)));
+                Ok(DeskAnswer::Ft12 {
+                    fixed_length,
+                    gap: format.gap(),
+                    distance: format.hamming_distance(),
+                })
+            }
             DeskOrder::Ft2(fixed_length, header_length) => {
                 let format = Ft2::new(fixed_length, header_length)?;
                 self.hearing = Some(Hearing::Ft2(Receiver::new(format)));
@@ -79,52 +86,17 @@ impl Desk {
                     distance: format.hamming_distance(),
                 })
             }
-            DeskOrder::Write(kind, octets) => self.call(line, Call::Write(kind, octets)),
-        }
-    }
-
-    fn obey_simple<L: Line>(&mut self, line: &mut L, order: Simple) -> Result<DeskAnswer, Undone>
-        ensures { Simply L.Line.pending order self.old self.new line.old line.new result }
-    {
-        match order {
-            Simple::Receiver => self.call(line, Call::New),
-            Simple::Gap => self.call(line, Call::Gap),
-            Simple::ShowMarks => Ok(DeskAnswer::Marks),
-            Simple::ShowFrame => Ok(DeskAnswer::Frame),
-            Simple::Look => self.call(line, Call::Look),
-            Simple::Release => self.call(line, Call::Release),
-            Simple::State => self.call(line, Call::State),
-        }
-    }
-
-    fn obey_numbered<L: Line>(
-        &mut self,
-        heap: Global,
-        line: &mut L,
-        order: Numbered,
-        number: u16,
-    ) -> Result<DeskAnswer, Undone>
-        ensures { Numbering L.Line.pending order number self.old self.new line.old line.new result }
-    {
-        match order {
-            Numbered::Ft12 => {
-                let format = Ft12::new(number)?;
-                self.hearing = Some(Hearing::Ft12(Receiver::new(format)));
-                Ok(DeskAnswer::Ft12 {
-                    fixed_length: number,
-                    gap: format.gap(),
-                    distance: format.hamming_distance(),
-                })
+            DeskOrder::MarkBuffer(count) => {
+                self.buffers.marks = buffer(heap, usize::from(count))?;
+                Ok(DeskAnswer::MarkBuffer(count))
             }
-            Numbered::MarkBuffer => {
-                self.buffers.marks = buffer(heap, usize::from(number))?;
-                Ok(DeskAnswer::MarkBuffer(number))
+            DeskOrder::FrameBuffer(count) => {
+                self.buffers.frame = buffer(heap, usize::from(count))?;
+                Ok(DeskAnswer::FrameBuffer(count))
             }
-            Numbered::FrameBuffer => {
-                self.buffers.frame = buffer(heap, usize::from(number))?;
-                Ok(DeskAnswer::FrameBuffer(number))
-            }
-            Numbered::Listen => self.call(line, Call::Listen(number)),
+            DeskOrder::ShowMarks => Ok(DeskAnswer::Marks),
+            DeskOrder::ShowFrame => Ok(DeskAnswer::Frame),
+            DeskOrder::Call(call) => self.call(line, call),
         }
     }
 

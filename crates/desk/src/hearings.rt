@@ -11,6 +11,7 @@ use hearing::answer::Heard;
 use lines::line::Line;
 use receiver::receiver::Receiver;
 
+// an enum and no `dyn`, since the gate lets no function hand out a `dyn` value that it made
 #[derive(Drop)]
 pub enum Hearing {
     Ft12(Receiver<Ft12>),

@@ -2,16 +2,18 @@
 ghost use Rattle.std.specs.Prelude.{◌≡◌, ◌<◌, MatchOption, MatchResult};
 ghost use Rattle.std.specs.Str.Iter.{split_whitespace_rest};
 ghost use Rattle.commands.specs.Texts.{Decimal, NextNumber, NoneOf};
-ghost use Rattle.desk.specs.Texts.{Behind, NoKind, NotKind, NotTwo, NotWritten, Reading, TwoNumbers, Wrong, names, word_of};
+ghost use Rattle.desk.specs.Texts.{Alone, Behind, NoKind, NotAlone, NotKind, NotTwo, NotWritten, Reading, TwoNumbers, Wrong, names, word_of};
 
+use crate::hearings::Call;
 use crate::misread::DeskMisread;
-use crate::order::{DeskOrder, Name, Numbered, Simple};
+use crate::order::{DeskOrder, Name};
 use commands::misread::{Misread, NumberFault};
 use commands::words::{end, next_number, number, octets, one_number};
 use std::alloc::Global;
 use std::str::SplitWhitespace;
 
 // The order that a line of text says; none where its first word begins no order of the desk's.
+// not `FromStr`, which gets no memory
 pub fn read(heap: Global, text: &str) -> Option<Result<DeskOrder, DeskMisread<'_>>>
     ensures { Reading text.now result }
 {
@@ -25,17 +27,17 @@ fn name_of(word: &str) -> Option<Name>
     ensures { MatchOption result (NoneOf names word.now) (λ n. word.now ≡ word_of n) }
 {
     match word {
-        "receiver" => Some(Name::Simple(Simple::Receiver)),
-        "gap" => Some(Name::Simple(Simple::Gap)),
-        "showmarks" => Some(Name::Simple(Simple::ShowMarks)),
-        "showframe" => Some(Name::Simple(Simple::ShowFrame)),
-        "look" => Some(Name::Simple(Simple::Look)),
-        "release" => Some(Name::Simple(Simple::Release)),
-        "state" => Some(Name::Simple(Simple::State)),
-        "ft12" => Some(Name::Numbered(Numbered::Ft12)),
-        "markbuffer" => Some(Name::Numbered(Numbered::MarkBuffer)),
-        "framebuffer" => Some(Name::Numbered(Numbered::FrameBuffer)),
-        "listen" => Some(Name::Numbered(Numbered::Listen)),
+        "receiver" => Some(Name::Receiver),
+        "gap" => Some(Name::Gap),
+        "showmarks" => Some(Name::ShowMarks),
+        "showframe" => Some(Name::ShowFrame),
+        "look" => Some(Name::Look),
+        "release" => Some(Name::Release),
+        "state" => Some(Name::State),
+        "ft12" => Some(Name::Ft12),
+        "markbuffer" => Some(Name::MarkBuffer),
+        "framebuffer" => Some(Name::FrameBuffer),
+        "listen" => Some(Name::Listen),
         "ft2" => Some(Name::Ft2),
         "write" => Some(Name::Write),
         _ => None,
@@ -51,17 +53,31 @@ fn behind<'a>(
     ensures { MatchResult result (λ o. Behind name (split_whitespace_rest words.entry) o) (λ e. Wrong name (split_whitespace_rest words.entry) e) }
 {
     match name {
-        Name::Simple(order) => {
-            end(words)?;
-            Ok(DeskOrder::Simple(order))
-        }
-        Name::Numbered(order) => Ok(DeskOrder::Numbered(order, one_number(words)?)),
+        Name::Receiver => alone(words, DeskOrder::Call(Call::New)),
+        Name::Gap => alone(words, DeskOrder::Call(Call::Gap)),
+        Name::ShowMarks => alone(words, DeskOrder::ShowMarks),
+        Name::ShowFrame => alone(words, DeskOrder::ShowFrame),
+        Name::Look => alone(words, DeskOrder::Call(Call::Look)),
+        Name::Release => alone(words, DeskOrder::Call(Call::Release)),
+        Name::State => alone(words, DeskOrder::Call(Call::State)),
+        Name::Ft12 => Ok(DeskOrder::Ft12(one_number(words)?)),
+        Name::MarkBuffer => Ok(DeskOrder::MarkBuffer(one_number(words)?)),
+        Name::FrameBuffer => Ok(DeskOrder::FrameBuffer(one_number(words)?)),
+        Name::Listen => Ok(DeskOrder::Call(Call::Listen(one_number(words)?))),
         Name::Ft2 => {
             let (fixed_length, header_length) = two_numbers(words)?;
             Ok(DeskOrder::Ft2(fixed_length, header_length))
         }
         Name::Write => write(heap, words),
     }
+}
+
+// The order, where no word is left.
+fn alone<'a>(words: SplitWhitespace<'a>, order: DeskOrder) -> Result<DeskOrder, DeskMisread<'a>>
+    ensures { MatchResult result (λ o. Alone order (split_whitespace_rest words.entry) o) (λ e. NotAlone (split_whitespace_rest words.entry) e) }
+{
+    end(words)?;
+    Ok(order)
 }
 
 // Two numbers, with no word behind them.
@@ -93,5 +109,5 @@ fn write<'a>(heap: Global, mut words: SplitWhitespace<'a>) -> Result<DeskOrder, 
     ensures { MatchResult result (λ o. Behind Name.Write (split_whitespace_rest words.entry) o) (λ e. NotWritten (split_whitespace_rest words.entry) e) }
 {
     let kind = next_kind(&mut words)?;
-    Ok(DeskOrder::Write(kind, octets(heap, words)?))
+    Ok(DeskOrder::Call(Call::Write(kind, octets(heap, words)?)))
 }

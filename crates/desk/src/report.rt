@@ -1,6 +1,7 @@
 // What the desk answers, in text.
 ghost use Rattle.std.specs.Prelude.{◌≡◌, Some, flat_map, take};
-ghost use Rattle.desk.specs.Reports.{ending_text, octet_symbol, report_text};
+ghost use Rattle.std.specs.Fmt.{WritesOnOk};
+ghost use Rattle.desk.specs.Reports.{ending_text, octet_digits, octet_symbol, octets_text, report_text};
 
 use crate::answer::DeskAnswer;
 use hearing::answer::Ending;
@@ -17,7 +18,7 @@ pub struct Report<'a> {
 }
 
 impl fmt::Display for Report<'_> {
-    ghost output = { λ report. report_text report.answer report.marks.now };
+    ghost output = { λ report. Some (report_text report.answer report.marks.now report.frame.now) };
 
     fn fmt<W: fmt::Write>(&self, f: &mut fmt::Formatter<W>) -> fmt::Result {
         match self.answer {
@@ -85,6 +86,7 @@ impl fmt::Display for Ended {
 }
 
 // The octets of a mark buffer, as the marks for which they stand.
+// not one with `Symbols` of `commands`, whose items are marks: that would need a trait of its own, and be longer
 #[derive(Clone, Copy)]
 struct Symbols<'a>(&'a [u8]);
 
@@ -99,20 +101,38 @@ impl fmt::Display for Symbols<'_> {
     }
 }
 
-// How many octets there are, and the octets. Their text is not stated, since the library states none of hex digits.
+// How many octets there are, and the octets.
 #[derive(Clone, Copy)]
 struct Octets<'a>(&'a [u8]);
 
 impl fmt::Display for Octets<'_> {
+    ghost output = { λ octets. Some (octets_text octets.0.now) };
+
     fn fmt<W: fmt::Write>(&self, f: &mut fmt::Formatter<W>) -> fmt::Result {
-        let octets = self.0;
-        write!(f, "{} octets", octets.len())?;
-        if !octets.is_empty() {
-            write!(f, ":")?;
+        match self.0 {
+            [] => write!(f, "0 octets"),
+            octets => write!(f, "{} octets:{}", octets.len(), Digits(octets)),
         }
-        for octet in octets {
-            write!(f, " {octet:02X}")?;
+    }
+}
+
+// Octets as they are shown, a space and two hex digits each.
+#[derive(Clone, Copy)]
+struct Digits<'a>(&'a [u8]);
+
+impl fmt::Display for Digits<'_> {
+    ghost output = { λ octets. Some (flat_map octet_digits octets.0.now) };
+
+    fn fmt<W: fmt::Write>(&self, f: &mut fmt::Formatter<W>) -> fmt::Result {
+        for octet in self.0 {
+            write_octet(*octet, f)?;
         }
         Ok(())
     }
+}
+
+fn write_octet<W: fmt::Write>(octet: u8, f: &mut fmt::Formatter<W>) -> fmt::Result
+    ensures { WritesOnOk W.write_str_gives f.old result (octet_digits octet) f.new }
+{
+    write!(f, " {octet:02X}")
 }

@@ -6,8 +6,6 @@ use Rattle.readings.specs.Numbers.{decimal_of, digits_on}
 use Rattle.readings.specs.declared.reading.Reading.{Reading}
 use Rattle.readings.specs.declared.refusal.Miskeyed.{Miskeyed}
 use Rattle.readings.specs.declared.refusal.Miskeyed.TheVariants.{WrongCount, NoNumber, OutOfLimits}
-use Rattle.readings.specs.declared.refusal.NoReading.{NoReading}
-use Rattle.readings.specs.declared.refusal.NoReading.TheVariants as octets
 use Rattle.readings.specs.declared.refusal.Part.{Part}
 use Rattle.readings.specs.declared.refusal.Part.TheVariants.{Batch, Temperature, Viscosity}
 
@@ -46,11 +44,6 @@ abbrev pub Wrong : Words → Miskeyed → Type 0
 Wrong words WrongCount = ⊥
 Wrong words (NoNumber part) = number_in part (word_of words part) ≡ None
 Wrong words (OutOfLimits part) = (n : ℕ) × (number_in part (word_of words part) ≡ Some n) × (Limits part n → ⊥)
-
--- what is wrong with a reading, as it is told at the terminal
-abbrev pub at_terminal : NoReading → Miskeyed
-at_terminal octets.WrongCount = WrongCount
-at_terminal (octets.OutOfLimits part) = OutOfLimits part
 
 -- the text is white space, the word, and the rest, which is empty or begins with white space
 pub record First (text word rest : List ℕ) : Type 0 where

@@ -2,6 +2,7 @@
 use Rattle.std.specs.Prelude.{◌≡◌, ℕ, ◌+◌, ◌*◌, ◌/◌, ◌%◌, ◌<◌, ◌≤◌, List, [], ◌∷◌, length, slice_index}
 use Rattle.readings.specs.declared.refusal.NoReading.{NoReading}
 use Rattle.readings.specs.declared.refusal.NoReading.TheVariants.{WrongCount, OutOfLimits}
+use Rattle.readings.specs.declared.refusal.Part.{Part}
 use Rattle.readings.specs.declared.refusal.Part.TheVariants.{Batch, Temperature, Viscosity}
 
 -- two octets of batch, two of temperature, three of viscosity
@@ -20,13 +21,12 @@ abbrev pub viscosity_in : List ℕ → ℕ
 viscosity_in octets = slice_index octets 4 * 65536 + slice_index octets 5 * 256 + slice_index octets 6
 
 -- the first part that is outside its limits
-abbrev pub Unfit : ℕ → ℕ → ℕ → NoReading → Type 0
-Unfit batch temperature viscosity WrongCount = ⊥
-Unfit batch temperature viscosity (OutOfLimits Batch) = batch ≡ 0
-Unfit batch temperature viscosity (OutOfLimits Temperature) = (1 ≤ batch) × (2000 < temperature)
-Unfit batch temperature viscosity (OutOfLimits Viscosity) = (1 ≤ batch) × (temperature ≤ 2000) × (1 ≤ viscosity → viscosity ≤ 9999999 → ⊥)
+abbrev pub Unfit : ℕ → ℕ → ℕ → Part → Type 0
+Unfit batch temperature viscosity Batch = batch ≡ 0
+Unfit batch temperature viscosity Temperature = (1 ≤ batch) × (2000 < temperature)
+Unfit batch temperature viscosity Viscosity = (1 ≤ batch) × (temperature ≤ 2000) × (1 ≤ viscosity → viscosity ≤ 9999999 → ⊥)
 
 -- why octets are no reading
 abbrev pub Misfits : List ℕ → NoReading → Type 0
 Misfits octets WrongCount = length octets ≡ 7 → ⊥
-Misfits octets (OutOfLimits part) = (length octets ≡ 7) × Unfit (batch_in octets) (temperature_in octets) (viscosity_in octets) (OutOfLimits part)
+Misfits octets (OutOfLimits part) = (length octets ≡ 7) × Unfit (batch_in octets) (temperature_in octets) (viscosity_in octets) part

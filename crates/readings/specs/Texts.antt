@@ -34,9 +34,12 @@ part_name Batch = codes "batch"
 part_name Temperature = codes "temperature"
 part_name Viscosity = codes "viscosity"
 
+abbrev pub out_of_limits_text : Part → List ℕ
+out_of_limits_text part = part_name part ++ codes " out of limits"
+
 abbrev pub no_reading_text : NoReading → List ℕ
 no_reading_text octets.WrongCount = codes "a reading has seven octets"
-no_reading_text (octets.OutOfLimits part) = part_name part ++ codes " out of limits"
+no_reading_text (octets.OutOfLimits part) = out_of_limits_text part
 
 -- the form of a part where it is keyed
 abbrev pub form_of : Part → List ℕ

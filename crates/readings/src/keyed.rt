@@ -25,7 +25,7 @@ fn of_words(batch: &str, temperature: &str, viscosity: &str) -> Result<Reading, 
     Ok(Reading::new(batch as u16, BATH_TEMPERATURE, viscosity)?)
 }
 
-// The reading that a line of text writes.
+// The reading that a line of text writes. No `FromStr`: a reading in general is no bath result.
 pub fn keyed(text: &str) -> Result<Reading, Miskeyed>
     ensures { MatchResult result (λ x. (words : Words) × Three text.now words × Writes words x) (λ e. Refused text.now e) }
 {

@@ -1,8 +1,8 @@
-// Numbers as they are keyed.
+// Numbers as they are keyed. Not `parse`: that takes a sign.
 ghost use Rattle.std.specs.Prelude.{◌≡◌, Some};
 ghost use Rattle.readings.specs.Numbers.{decimal_of, digits_on, with_digit};
 
-// The number with one digit more; at most seven digits are taken.
+// The number with one digit more; at most seven are taken besides leading zeros.
 fn with_digit(number: u32, symbol: u8) -> Option<u32>
     ensures { result ≡ with_digit number symbol }
 {

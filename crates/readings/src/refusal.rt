@@ -1,6 +1,7 @@
 // Why octets, or what was keyed, is no reading.
 ghost use Rattle.std.specs.Prelude.{◌≡◌};
-ghost use Rattle.readings.specs.Keyed.{at_terminal};
+ghost use Rattle.readings.specs.declared.refusal.Miskeyed.TheVariants as keyed;
+ghost use Rattle.readings.specs.declared.refusal.NoReading.TheVariants as octets;
 
 use std::error::Error;
 
@@ -11,6 +12,10 @@ pub enum Part {
     Temperature,
     Viscosity,
 }
+
+// The part that is outside its limits.
+#[derive(Clone, Copy, PartialEq, Eq, Debug)]
+pub struct OutOfLimits(pub Part);
 
 // Why user octets are no reading.
 #[derive(Clone, Copy, PartialEq, Eq, Debug)]
@@ -32,18 +37,25 @@ pub enum Miskeyed {
     OutOfLimits(Part),
 }
 
+impl Error for OutOfLimits {}
+
 impl Error for NoReading {}
 
 impl Error for Miskeyed {}
 
-// What is wrong with a reading, as it is told at the terminal.
-impl From<NoReading> for Miskeyed {
-    ghost from_gives = { λ fault miskeyed. miskeyed ≡ at_terminal fault };
+impl From<OutOfLimits> for NoReading {
+    ghost from_gives = { λ fault why. why ≡ octets.OutOfLimits fault.0 };
 
-    fn from(fault: NoReading) -> Miskeyed {
-        match fault {
-            NoReading::WrongCount => Miskeyed::WrongCount,
-            NoReading::OutOfLimits(part) => Miskeyed::OutOfLimits(part),
-        }
+    fn from(fault: OutOfLimits) -> NoReading {
+        NoReading::OutOfLimits(fault.0)
+    }
+}
+
+// What is wrong with a reading, as it is told at the terminal.
+impl From<OutOfLimits> for Miskeyed {
+    ghost from_gives = { λ fault miskeyed. miskeyed ≡ keyed.OutOfLimits fault.0 };
+
+    fn from(fault: OutOfLimits) -> Miskeyed {
+        Miskeyed::OutOfLimits(fault.0)
     }
 }

@@ -1,9 +1,9 @@
 // Readings and refusals in text.
 ghost use Rattle.std.specs.Prelude.{Some};
-ghost use Rattle.readings.specs.Texts.{hundredths_text, miskeyed_text, no_reading_text, part_name, reading_text, tenths_text};
+ghost use Rattle.readings.specs.Texts.{hundredths_text, miskeyed_text, no_reading_text, out_of_limits_text, part_name, reading_text, tenths_text};
 
 use crate::reading::Reading;
-use crate::refusal::{Miskeyed, NoReading, Part};
+use crate::refusal::{Miskeyed, NoReading, OutOfLimits, Part};
 use std::fmt;
 
 // A viscosity in hundredths of mm²/s.
@@ -52,13 +52,21 @@ impl fmt::Display for Part {
     }
 }
 
+impl fmt::Display for OutOfLimits {
+    ghost output = { λ fault. Some (out_of_limits_text fault.0) };
+
+    fn fmt<W: fmt::Write>(&self, f: &mut fmt::Formatter<W>) -> fmt::Result {
+        write!(f, "{} out of limits", self.0)
+    }
+}
+
 impl fmt::Display for NoReading {
     ghost output = { λ why. Some (no_reading_text why) };
 
     fn fmt<W: fmt::Write>(&self, f: &mut fmt::Formatter<W>) -> fmt::Result {
         match *self {
             NoReading::WrongCount => f.write_str("a reading has seven octets"),
-            NoReading::OutOfLimits(part) => write!(f, "{part} out of limits"),
+            NoReading::OutOfLimits(part) => write!(f, "{}", OutOfLimits(part)),
         }
     }
 }

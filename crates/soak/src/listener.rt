@@ -39,7 +39,7 @@ where
             self.tally.marks = self.tally.marks.wrapping_add(u64::from(heard.taken));
             self.tally.note(u64::from(heard.taken));
             match heard.ending {
-                Ending::Frame { kind, .. } => came = self.frame(kind, sent),
+                Ending::Frame { kind, .. } => came = self.note_frame(kind, sent),
                 Ending::Fault(fault) => {
                     came = false;
                     self.tally.faults = self.tally.faults.wrapping_add(1);
@@ -56,7 +56,7 @@ where
     }
 
     // Notes the frame that is held, and releases it. Whether it is the one that was sent.
-    fn frame(&mut self, kind: u8, sent: &Sent) -> bool {
+    fn note_frame(&mut self, kind: u8, sent: &Sent) -> bool {
         self.tally.frames = self.tally.frames.wrapping_add(1);
         self.tally.note(u64::from(kind));
         let Ok(user) = self.receiver.look(&self.buffer) else {

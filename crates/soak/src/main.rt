@@ -3,7 +3,7 @@
 #![tactic(auto)]
 
 use anyhow::{Context, anyhow};
-use formats::format::{ReadFormat, WriteFormat};
+use formats::format::WriteFormat;
 use ft2::format::Ft2;
 use ft12::format::Ft12;
 use listener::Listener;
@@ -23,7 +23,7 @@ const MARKS: u32 = 50000;
 // The most marks that a frame or a gap has here.
 const WRITTEN: usize = 4096;
 
-// Appends a quiet gap and the frame.
+// Appends a quiet gap and the frame. Not shared with bath: the sizes differ, and no crate is there for programs alone.
 fn append_frame<F: WriteFormat>(
     format: &F,
     sent: &Sent,
@@ -40,7 +40,7 @@ fn append_frame<F: WriteFormat>(
 }
 
 // So many rounds of noise, each with a frame behind a gap at its end.
-fn soak<F: ReadFormat + WriteFormat + Copy + Drop>(
+fn soak<F: WriteFormat + Copy + Drop>(
     rt: &HostRuntime,
     format: F,
     plans: [Plan; 4],
@@ -63,8 +63,8 @@ where
     Ok(listener.tally)
 }
 
-// The number that a word of the command line writes; the default where there is no word.
-fn word(words: &mut env::Args, default: u32) -> anyhow::Result<u32> {
+// The number that the next word of the command line writes; the default where there is no word.
+fn number_of(words: &mut env::Args, default: u32) -> anyhow::Result<u32> {
     match words.next() {
         Some(text) => Ok(text.as_str().parse()?),
         None => Ok(default),
@@ -75,8 +75,8 @@ fn run(rt: &HostRuntime) -> anyhow::Result<()> {
     let mut words = env::args(rt)?;
     // the program's own name
     let _ = words.next();
-    let rounds = word(&mut words, 4)?;
-    let seed = word(&mut words, 1)?;
+    let rounds = number_of(&mut words, 4)?;
+    let seed = number_of(&mut words, 1)?;
     let ft12 = Ft12::new(8).context("no such settings")?;
     let tally = soak(rt, ft12, FT12_PLANS, rounds, seed)?;
     println!(rt; "FT1.2: {tally}")?;
@@ -86,7 +86,7 @@ fn run(rt: &HostRuntime) -> anyhow::Result<()> {
     Ok(())
 }
 
-// What went wrong is told in quotes.
+// What went wrong is told in quotes. It stands in each program: no crate is there for programs alone.
 fn main(rt: HostRuntime) -> anyhow::Result<()> {
     run(&rt).map_err(|why| anyhow!("\"{why}\""))
 }

@@ -2,6 +2,7 @@
 ghost use Rattle.std.specs.Prelude.{◌≡◌, ◌+◌, length, OnOk, bit_or};
 ghost use Rattle.soak.specs.Noise.{mark_of, octet_of, shifted};
 
+use lines::mark::Mark;
 use std::alloc::AllocFailed;
 
 #[derive(Clone, Copy)]
@@ -29,18 +30,18 @@ impl Noise {
         ((x >> 8) & 0xff) as u8
     }
 
-    // An octet of a mark record: 0 and bad as often as said, of 256, and else 1.
-    pub fn mark(&mut self, zeros: u8, bad: u8) -> u8
+    // A mark: 0 and bad as often as said, of 256, and else 1.
+    pub fn mark(&mut self, zeros: u8, bad: u8) -> Mark
         ensures state { self.new.state ≡ shifted self.old.state }
         ensures mark { result ≡ mark_of zeros bad (octet_of self.new.state) }
     {
         let octet = self.octet();
         if octet < zeros {
-            0
+            Mark::Zero
         } else if octet - zeros < bad {
-            2
+            Mark::Bad
         } else {
-            1
+            Mark::One
         }
     }
 
@@ -55,7 +56,7 @@ impl Noise {
             _ => (100, 16),
         };
         for _i in 0..count {
-            marks.push(self.mark(zeros, bad))?;
+            marks.push(self.mark(zeros, bad).into())?;
         }
         Ok(())
     }

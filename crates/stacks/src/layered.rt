@@ -10,6 +10,7 @@ use lines::mark::Mark;
 use lines::reversal::Reversed;
 use lines::sampling::{Kept, Sampled};
 
+// an enum and no `dyn`, since the gate lets no function hand out a `dyn` value that it made
 #[derive(Drop)]
 pub enum Layered<L> {
     Reversal(Reversed<L>),

@@ -2,7 +2,7 @@
 ghost use Rattle.std.specs.Prelude.{◌≡◌, ◌%◌, length, Some, MatchResult};
 ghost use Rattle.lines.specs.declared.refusal.RecordRefusal.TheVariants.{OddOctetCount};
 ghost use Rattle.stacks.specs.declared.record.RecordKind.TheVariants.{Characters as KindCharacters};
-ghost use Rattle.stacks.specs.Records.{marks_in, recorded};
+ghost use Rattle.stacks.specs.Records.{Suits, marks_in, recorded};
 ghost use Rattle.stacks.specs.Texts.{kind_name};
 
 use lines::character_record::CharacterRecord;
@@ -29,6 +29,7 @@ impl fmt::Display for RecordKind {
     }
 }
 
+// an enum and no `dyn`, since the gate lets no function hand out a `dyn` value that it made
 #[derive(Drop)]
 pub enum Record<'a> {
     Marks(MarkRecord<'a>),
@@ -38,7 +39,7 @@ pub enum Record<'a> {
 impl<'a> Record<'a> {
     // The line that gives the marks of a record, first to last. A character record of an odd number of octets is refused.
     pub fn new(kind: RecordKind, octets: &'a [u8]) -> Result<Self, RecordRefusal>
-        ensures { MatchResult result (λ s. recorded s ≡ marks_in kind octets.now) (λ e. (kind ≡ KindCharacters) × (length octets.now % 2 ≡ 1) × (e ≡ OddOctetCount)) }
+        ensures { MatchResult result (λ s. Suits kind octets.now × (recorded s ≡ marks_in kind octets.now)) (λ e. (kind ≡ KindCharacters) × (length octets.now % 2 ≡ 1) × (e ≡ OddOctetCount)) }
     {
         match kind {
             RecordKind::Marks => Ok(Record::Marks(MarkRecord::new(octets))),

@@ -3,7 +3,7 @@
 
 use anyhow::{Context, anyhow};
 use day::batches::{Rows, last_reading};
-use day::entry::{Entry, Site};
+use day::entry::{Entry, Lost, Site};
 use day::layers::{Layers, hear_through};
 use ft2::format::Ft2;
 use ft12::format::Ft12;
@@ -66,15 +66,15 @@ fn print_batches(rt: &HostRuntime, line: &[Entry], lab: &[Entry]) -> anyhow::Res
     Ok(())
 }
 
-// The frames of a side that show no reading, to be polled for anew.
-fn print_lost(rt: &HostRuntime, side: &str, entries: &[Entry]) -> anyhow::Result<()> {
+// The frames of a site that show no reading, to be polled for anew.
+fn print_lost(rt: &HostRuntime, site: Site, entries: &[Entry]) -> anyhow::Result<()> {
     let damaged = entries
         .iter()
-        .filter(|entry| matches!(entry, Entry::Damaged(_)))
+        .filter(|entry| matches!(entry, Err(Lost::Damaged(_))))
         .count();
-    println!(rt; "{side}: {damaged} damaged, to be polled for anew")?;
-    for entry in entries.iter().filter(|entry| entry.reading().is_none()) {
-        println!(rt; "  {entry}")?;
+    println!(rt; "{site}: {damaged} damaged, to be polled for anew")?;
+    for lost in entries.iter().filter_map(|entry| entry.err()) {
+        println!(rt; "  {lost}")?;
     }
     Ok(())
 }
@@ -88,11 +88,11 @@ fn run(rt: &HostRuntime) -> anyhow::Result<()> {
     let line = hear_line(rt, &line)?;
     let lab = hear_lab(rt, &lab)?;
     print_batches(rt, line.as_slice(), lab.as_slice())?;
-    print_lost(rt, "line", line.as_slice())?;
-    print_lost(rt, "lab", lab.as_slice())
+    print_lost(rt, Site::Line, line.as_slice())?;
+    print_lost(rt, Site::Lab, lab.as_slice())
 }
 
-// What went wrong is told in quotes.
+// What went wrong is told in quotes. It stands in each program: no crate is there for programs alone.
 fn main(rt: HostRuntime) -> anyhow::Result<()> {
     run(&rt).map_err(|why| anyhow!("\"{why}\""))
 }

@@ -3,24 +3,27 @@ ghost use Rattle.std.specs.Prelude.{◌≡◌, MatchResult};
 ghost use Rattle.readings.specs.Octets.{Misfits, Unfit, batch_in, octets_of, temperature_in, viscosity_in};
 
 use crate::reading::Reading;
-use crate::refusal::{NoReading, Part};
+use crate::refusal::{NoReading, OutOfLimits, Part};
 
 // The temperature of the lab's bath, 40.0 degrees.
 pub const BATH_TEMPERATURE: u16 = 400;
 
+// The kind of the frames that readings travel in.
+pub const READING_KIND: u8 = 1;
+
 impl Reading {
     // The first part that is outside its limits is named.
-    pub fn new(batch: u16, temperature: u16, viscosity: u32) -> Result<Reading, NoReading>
-        ensures { MatchResult result (λ x. (x.batch ≡ batch) × (x.temperature ≡ temperature) × (x.viscosity ≡ viscosity)) (λ e. Unfit batch temperature viscosity e) }
+    pub fn new(batch: u16, temperature: u16, viscosity: u32) -> Result<Reading, OutOfLimits>
+        ensures { MatchResult result (λ x. (x.batch ≡ batch) × (x.temperature ≡ temperature) × (x.viscosity ≡ viscosity)) (λ e. Unfit batch temperature viscosity e.0) }
     {
         if batch < 1 {
-            return Err(NoReading::OutOfLimits(Part::Batch));
+            return Err(OutOfLimits(Part::Batch));
         }
         if temperature > 2000 {
-            return Err(NoReading::OutOfLimits(Part::Temperature));
+            return Err(OutOfLimits(Part::Temperature));
         }
         if !(1..=9_999_999).contains(&viscosity) {
-            return Err(NoReading::OutOfLimits(Part::Viscosity));
+            return Err(OutOfLimits(Part::Viscosity));
         }
         Ok(Reading {
             batch,
@@ -43,7 +46,7 @@ impl TryFrom<&[u8]> for Reading {
         let batch = u16::from_be_bytes([b1, b0]);
         let temperature = u16::from_be_bytes([t1, t0]);
         let viscosity = u32::from_be_bytes([0, v2, v1, v0]);
-        Reading::new(batch, temperature, viscosity)
+        Ok(Reading::new(batch, temperature, viscosity)?)
     }
 }
 

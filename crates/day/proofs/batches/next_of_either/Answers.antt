@@ -2,8 +2,7 @@ use Rattle.std.proofs.Common.{List, ◌∷◌, [], None, Bor, sym, ◌∙◌, ru
 use Rattle.std.proofs.lemmas.Iterator.{YieldsList-from_slice}
 use Rattle.std.proofs.lemmas.Iterator.Adapters.{option_map_id}
 use Rattle.std.proofs.lemmas.Iterator.Consumers.{YieldsList-from_filter_map, min_from_yields_List}
-use Rattle.day.specs.Batches.{least_above}
-use Rattle.day.specs.declared.entry.Entry.{Entry}
+use Rattle.day.specs.Batches.{Entry, least_above}
 use Rattle.day.proofs.Chains.{lower_chain}
 use Rattle.day.proofs.batches.next_of_either.Goals as goal
 
