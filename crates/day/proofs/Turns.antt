@@ -3,8 +3,6 @@ use Rattle.std.proofs.Common.{◌≡◌, ℕ, List, [], ◌∷◌, ◌++◌, len
 use Rattle.lines.specs.declared.mark.Mark.{Mark}
 use Rattle.formats.specs.Laws.{Model}
 use Rattle.formats.specs.Verdicts.{Cause}
-use Rattle.formats.specs.declared.fault.Fault.{Ghosts as Faults}
-use Rattle.formats.specs.declared.format.ReadFormat.{Ghosts as Reads}
 use Rattle.hearing.specs.Calls.{Brings, Listens, Over}
 use Rattle.hearing.specs.Rules.{Hearer, Stage, holding, ready, waiting, within}
 use Rattle.hearing.specs.declared.answer.Ending.{Ending}
@@ -14,7 +12,7 @@ use Rattle.hearing.specs.declared.answer.State.TheVariants as state
 use Rattle.hearing.specs.Told.{told_fault}
 use Rattle.hearing.specs.declared.fault.ReceiverFault.{ReceiverFault}
 use Rattle.hearing.specs.declared.fault.ToldFault.{ToldFault}
-use Rattle.receiver.specs.Places.{At, kept, model_of, state_kept}
+use Rattle.receiver.specs.Places.{At, kept, state_kept}
 use Rattle.receiver.specs.declared.receiver.Receiver.{Receiver}
 use Rattle.day.specs.Batches.{Entry}
 use Rattle.day.specs.Decoding.{Decoded}
@@ -24,8 +22,8 @@ use Rattle.day.specs.declared.entry.Site.{Site}
 use Rattle.day.proofs.Runs.{Came, came, released}
 
 -- a receiver that is at a frame holds it, and one that is at none does not
-pub holds : {F E : Type 0} {read : Reads F E} {fault : Faults E} (r : Receiver F E read fault) (buffer : List ℕ) (b : Hearer) (k count : ℕ) → At r buffer b → b.stage ≡ holding k count → state_kept r.stage ≡ state.Holding
-holds r buffer b k count here e = ap state_kept (here.stands.stage_kept ∙ ap (kept (model_of r)) e)
+pub holds : {F : Type 0} (model : F → Model) (stands : F → List Mark → Type 0) (r : Receiver F) (buffer : List ℕ) (b : Hearer) (k count : ℕ) → At model stands r buffer b → b.stage ≡ holding k count → state_kept r.stage ≡ state.Holding
+holds model stands r buffer b k count here e = ap state_kept (here.stage_kept ∙ ap (kept (model r.format)) e)
 
 free_stage : (m : Model) (stage : Stage) → Free stage → state_kept (kept m stage) ≡ state.Holding → ⊥
 free_stage m waiting free e = let z : ◌≡◌ {A = ℕ} 0 1 = cc in omega arith
@@ -33,8 +31,8 @@ free_stage m ready free e = let z : ◌≡◌ {A = ℕ} 0 1 = cc in omega arith
 free_stage m (within list) free e = let z : ◌≡◌ {A = ℕ} 0 1 = cc in omega arith
 free_stage m (holding kind count) free e = free
 
-pub holds_none : {F E : Type 0} {read : Reads F E} {fault : Faults E} (r : Receiver F E read fault) (buffer : List ℕ) (b : Hearer) → At r buffer b → Free b.stage → state_kept r.stage ≡ state.Holding → ⊥
-holds_none r buffer b here free e = free_stage (model_of r) b.stage free (ap state_kept (sym here.stands.stage_kept) ∙ e)
+pub holds_none : {F : Type 0} (model : F → Model) (stands : F → List Mark → Type 0) (r : Receiver F) (buffer : List ℕ) (b : Hearer) → At model stands r buffer b → Free b.stage → state_kept r.stage ≡ state.Holding → ⊥
+holds_none model stands r buffer b here free e = free_stage (model r.format) b.stage free (ap state_kept (sym here.stage_kept) ∙ e)
 
 -- One listen, by the marks to come before and after it: the outcomes of its marks are told by what is noted.
 pub record Turned {R : Type 0} (site : Site) (at : R → List ℕ → Hearer → Type 0) (model : R → Model) (r r' : R) (before after : List Mark) (buffer buffer' : List ℕ) (noted : List Entry) : Type 0 where

@@ -20,7 +20,7 @@ fn held<F: ReadFormat>(
     buffer: &[u8; FRAME_OCTETS],
 ) -> Entry
     requires { (standing_of receiver.old).state ≡ Holding }
-    ensures { Handed site At model_of receiver.old receiver.new buffer.now kind result }
+    ensures { Handed site (At F.ReadFormat.model F.ReadFormat.stands) (model_of F.ReadFormat.model) receiver.old receiver.new buffer.now kind result }
 {
     let user = receiver.look(buffer).unwrap();
     let entry = decode(site, kind, user.as_slice());

@@ -53,7 +53,7 @@ fn carry_out<F: WriteFormat + Copy, L: Line>(
 ) -> Result<DeskAnswer, Undone>
 where
     F::Fault: Drop,
-    ensures { CarriedOut L.Line.pending call receiver.old receiver.new line.old line.new buffers.old buffers.new result }
+    ensures { CarriedOut F.ReadFormat.model F.ReadFormat.stands F.Fault.Fault.cause L.Line.pending call receiver.old receiver.new line.old line.new buffers.old buffers.new result }
 {
     match call {
         Call::New => {

@@ -1,5 +1,5 @@
 // The reading trait and the writing trait.
-ghost use Rattle.std.specs.Prelude.{◌≡◌, ℕ, List, []};
+ghost use Rattle.std.specs.Prelude.{◌≡◌, List, []};
 ghost use Rattle.formats.specs.Answers.{Added, GapWritten, Written};
 ghost use Rattle.formats.specs.Laws.{Laws, Model};
 ghost use Rattle.lines.specs.declared.mark.Mark.{Mark};
@@ -19,10 +19,9 @@ pub enum Progress {
 
 // A format that reads. Its state stands for the list of marks so far, perhaps for several.
 pub trait ReadFormat {
-    // The distance: fewer altered marks than this are always noticed.
+    // The distance: fewer altered marks than this are always noticed. Kept without a law that it is the meaning's, which
+    // each supplier would have to show besides: `hamming_distance` says so.
     const DISTANCE: u8;
-
-    ghost DISTANCE: { ℕ };
 
     type Fault: Fault;
 
@@ -36,10 +35,7 @@ pub trait ReadFormat {
         ensures { result ≡ (model self.now).gap };
 
     fn hamming_distance(&self) -> u8
-        ensures { result ≡ (model self.now).distance }
-    {
-        Self::DISTANCE
-    }
+        ensures { result ≡ (model self.now).distance };
 
     // Back to the empty list.
     fn restart(&mut self)
@@ -53,8 +49,6 @@ pub trait ReadFormat {
 
     // what whoever supplies a format shows
     ghost lawful: { (s : Self) → Laws (model s) };
-
-    ghost distance_named: { (s : Self) → (model s).distance ≡ DISTANCE };
 }
 
 // A format that also writes.

@@ -1,5 +1,5 @@
 // FT1.2 behind the reading and the writing trait.
-ghost use Rattle.std.specs.Prelude.{◌≡◌, ◌≤◌, [], Decides, MatchResult, refl};
+ghost use Rattle.std.specs.Prelude.{◌≡◌, ◌≤◌, [], Decides, MatchResult};
 ghost use Rattle.lines.specs.declared.mark.Mark.TheVariants.{One};
 ghost use Rattle.formats.specs.Answers.{Tells};
 ghost use Rattle.formats.specs.Machine.{StandsFor};
@@ -89,8 +89,6 @@ impl Ft12 {
 impl ReadFormat for Ft12 {
     const DISTANCE: u8 = 4;
 
-    ghost DISTANCE = { 4 };
-
     type Fault = Ft12Fault;
 
     ghost model = { λ s. spec.ft12_model s.settings.fixed_length };
@@ -99,10 +97,12 @@ impl ReadFormat for Ft12 {
 
     ghost lawful = { λ s. ft12_laws s.settings.fixed_length (omega (arith, s.settings.limits)) };
 
-    ghost distance_named = { λ _. refl };
-
     fn gap(&self) -> u16 {
         GAP
+    }
+
+    fn hamming_distance(&self) -> u8 {
+        Self::DISTANCE
     }
 
     fn restart(&mut self) {

@@ -1,5 +1,5 @@
 // FT2 as a format that reads.
-ghost use Rattle.std.specs.Prelude.{◌≡◌, refl};
+ghost use Rattle.std.specs.Prelude.{◌≡◌};
 ghost use Rattle.ft2_laws.specs.Reading.{ft2_model};
 ghost use Rattle.ft2_laws.specs.Worked.{Worked};
 ghost use Rattle.ft2.specs.Making.{Made};
@@ -36,8 +36,6 @@ impl Ft2 {
 impl ReadFormat for Ft2 {
     const DISTANCE: u8 = 4;
 
-    ghost DISTANCE = { 4 };
-
     type Fault = Ft2Fault;
 
     ghost model = { λ s. ft2_model s.settings };
@@ -46,13 +44,15 @@ impl ReadFormat for Ft2 {
 
     ghost lawful = { λ s. ft2_laws s.settings };
 
-    ghost distance_named = { λ s. refl };
-
     // Eight marks for each octet of the longest frame.
     fn gap(&self) -> u16 {
         let fixed = u16::from(self.settings.fixed);
         let variable = u16::from(self.settings.header) + 15;
         8 * (fixed.max(variable) + 3)
+    }
+
+    fn hamming_distance(&self) -> u8 {
+        Self::DISTANCE
     }
 
     fn restart(&mut self) {

@@ -22,7 +22,7 @@ ft12_stands f = StandsFor (ft12_machine f.settings.fixed_length) f.reading
 
 -- what it reads, and its faults
 abbrev pub ft12_reads : Reads Ft12 Ft12Fault
-ft12_reads = record { DISTANCE = 4; model = ft12_meaning; stands = ft12_stands }
+ft12_reads = record { model = ft12_meaning; stands = ft12_stands }
 
 abbrev pub ft12_faults : Faults Ft12Fault
 ft12_faults = record { cause = ft12_cause }

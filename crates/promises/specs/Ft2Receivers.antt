@@ -21,7 +21,7 @@ ft2_stands f = Standing f.settings f.reader
 
 -- what it reads, and its faults
 abbrev pub ft2_reads : Reads Ft2 Ft2Fault
-ft2_reads = record { DISTANCE = 4; model = ft2_meaning; stands = ft2_stands }
+ft2_reads = record { model = ft2_meaning; stands = ft2_stands }
 
 abbrev pub ft2_faults : Faults Ft2Fault
 ft2_faults = record { cause = ft2_cause }

@@ -16,9 +16,8 @@ use Rattle.hearing.specs.Rules as rules
 use Rattle.hearing.specs.declared.answer.Ending.{Ending}
 use Rattle.hearing.specs.declared.answer.Ending.TheVariants as ending
 use Rattle.hearing.specs.declared.fault.ReceiverFault.{ReceiverFault}
-use Rattle.receiver.proofs.Stages.{stands_resting}
-use Rattle.receiver.specs.Places.{model_of}
-use Rattle.receiver.specs.Stages.{Keeps, ListKept, Stands, kept, list_kept, with_mark, with_octet}
+use Rattle.receiver.proofs.Stages.{Stands, stands_resting}
+use Rattle.receiver.specs.Stages.{kept, list_kept, with_mark, with_octet}
 use Rattle.receiver.specs.Steps.{EndedBy, Judges}
 use Rattle.receiver.specs.declared.receiver.Receiver.{Receiver}
 use Rattle.receiver.specs.declared.stage.OpenList.{OpenList}
@@ -54,6 +53,13 @@ module _ {F E : Type 0} (read : Reads F E) (fault : Faults E) (f f' : F) (mark :
       short : so_far.marks < 65535
       short = omega (arith, laws.open_is_short (list ++ (mark ∷ [])) begins longer, length_push list mark, ap (λ l. l.marks) is)
 
+      -- an octet that is told is numbered below 255
+      few : (octet : ℕ) → w ≡ tells octet → so_far.octets < 255
+      few octet ew =
+          let all = laws.few_told (list ++ (mark ∷ [])) begins longer in
+          let more = told ∙ ap (λ u. length (told_along m.verdict [] list ++ octet_told u)) ew ∙ length_push (told_along m.verdict [] list) octet in
+          omega (arith, all, more, ap (λ l. l.octets) is)
+
       goes_on : (l : OpenList) → l ≡ list_kept m (list ++ (mark ∷ [])) → read.stands f' (list ++ (mark ∷ [])) → Stands read.model read.stands f' (stage.Open l) (within (list ++ (mark ∷ [])))
       goes_on l el st =
           record { stage_kept = ap stage.Open (el ∙ ap (λ k. list_kept k (list ++ (mark ∷ []))) (sym same)); list_stands = st; sound = (begins, subst (λ k. OpenAlong k.verdict [] (list ++ (mark ∷ []))) (sym same) longer) }
@@ -68,26 +74,32 @@ module _ {F E : Type 0} (read : Reads F E) (fault : Faults E) (f f' : F) (mark :
     follow : (s : Stage) (answer : Option (Ending (ReceiverFault E))) (buffer buffer' : List ℕ) → By s answer buffer buffer' → Following s answer buffer buffer'
     follow s answer buffer buffer' by list st o b is = let p = added.judged list st b in by list o b is (m.verdict (list ++ (mark ∷ []))) refl p.0 p.1
 
-    pub open_follows : answered ≡ Ok progress.Open → (l : OpenList) → l ≡ with_mark so_far → (buffer : List ℕ) → Following (stage.Open l) None buffer buffer
-    open_follows ea l el buffer = follow _ _ buffer buffer by
+    pub open_follows : answered ≡ Ok progress.Open → (l : OpenList) → (so_far.marks < 65535 → l ≡ with_mark so_far) → (buffer : List ℕ) → Following (stage.Open l) None buffer buffer
+    open_follows ea l fits buffer = follow _ _ buffer buffer by
       where
         by : By (stage.Open l) None buffer buffer
         by list o b is open_list e t st =
             let none = told list o b is open_list e tt ∙ ap length (append-nil (told_along m.verdict [] list)) in
             let one = length_push list mark in
+            let el = fits (short list o b is open_list e tt) in
             record { stands = goes_on list o b is open_list e tt l (cc) st; run_counts = refl; buffer_is = refl; ended = refl }
         by list o b is (tells octet) e t st = cc
         by list o b is (frame_of kind) e t st = cc
         by list o b is (fault_of why) e t st = let q = t.1 in cc
 
-    pub octet_follows : (octet : ℕ) → answered ≡ Ok (progress.Octet octet) → (l : OpenList) → l ≡ with_octet (with_mark so_far) → (buffer buffer' : List ℕ) → buffer' ≡ set buffer so_far.octets octet → Following (stage.Open l) None buffer buffer'
-    octet_follows octet ea l el buffer buffer' writes = follow _ _ buffer buffer' by
+    pub octet_follows : (octet : ℕ) → answered ≡ Ok (progress.Octet octet) → (l : OpenList) → (so_far.marks < 65535 → so_far.octets < 255 → l ≡ with_octet (with_mark so_far)) → (buffer buffer' : List ℕ)
+        → (so_far.marks < 65535 → so_far.octets < 255 → buffer' ≡ set buffer so_far.octets octet) → Following (stage.Open l) None buffer buffer'
+    octet_follows octet ea l fits buffer buffer' writes = follow _ _ buffer buffer' by
       where
         by : By (stage.Open l) None buffer buffer'
         by list o b is (tells octet') e t st =
             let here : octet ≡ octet' = cc in
             let more = told list o b is (tells octet') e tt ∙ length_push (told_along m.verdict [] list) octet' in
             let one = length_push list mark in
+            let room = short list o b is (tells octet') e tt in
+            let number = few list o b is (tells octet') e tt octet' refl in
+            let el = fits room number in
+            let written = writes room number in
             record { stands = goes_on list o b is (tells octet') e tt l (cc) st; run_counts = refl; buffer_is = cc; ended = refl }
         by list o b is open_list e t st = cc
         by list o b is (frame_of kind) e t st = cc
@@ -118,32 +130,12 @@ module _ {F E : Type 0} (read : Reads F E) (fault : Faults E) (f f' : F) (mark :
         by list o b is (tells octet) e t st = cc
         by list o b is (frame_of kind) e t st = cc
 
-    -- what is kept of a list that goes on comes to no limit
-    pub room_for_mark : ListKept read.model read.stands f mark so_far → (p : Progress) → answered ≡ Ok p → ((kind : ℕ) → p ≡ progress.Frame kind → ⊥) → so_far.marks < 65535
-    room_for_mark k p ea no_frame = go (m.verdict (k.0 ++ (mark ∷ []))) refl (added.judged k.0 k.1 k.3).0
-      where
-        go : (w : Verdict) → m.verdict (k.0 ++ (mark ∷ [])) ≡ w → Tells fault.cause w answered → so_far.marks < 65535
-        go open_list e t = short k.0 k.2 k.3 k.4 open_list e tt
-        go (tells octet) e t = short k.0 k.2 k.3 k.4 (tells octet) e tt
-        go (frame_of kind) e t = absurd (no_frame kind (cc))
-        go (fault_of why) e t = let q = t.1 in cc
-
-    pub room_for_octet : ListKept read.model read.stands f mark so_far → (octet : ℕ) → answered ≡ Ok (progress.Octet octet) → so_far.octets < 255
-    room_for_octet k octet ea = go (m.verdict (k.0 ++ (mark ∷ []))) refl (added.judged k.0 k.1 k.3).0
-      where
-        go : (w : Verdict) → m.verdict (k.0 ++ (mark ∷ [])) ≡ w → Tells fault.cause w answered → so_far.octets < 255
-        go (tells octet') e t =
-            let few = laws.few_told (k.0 ++ (mark ∷ [])) k.3 (longer k.0 k.2 k.3 k.4 (tells octet') e tt) in
-            let more = told k.0 k.2 k.3 k.4 (tells octet') e tt ∙ length_push (told_along m.verdict [] k.0) octet' in
-            omega (arith, few, more, ap (λ l. l.octets) k.4)
-        go open_list e t = cc
-        go (frame_of kind) e t = cc
-        go (fault_of why) e t = let q = t.1 in cc
-
-    pub keeps_following : (s : Stage) (answer : Option (Ending (ReceiverFault E))) (buffer buffer' : List ℕ) → Following s answer buffer buffer' → ListKept read.model read.stands f mark so_far → Keeps read.model read.stands f' s
-    keeps_following s answer buffer buffer' go k = (_, (go k.0 k.1 k.2 k.3 k.4).stands)
-
-pub judges_following : {F E : Type 0} {read : Reads F E} {fault : Faults E} (r : Receiver F E read fault) (f' : F) (same : read.model f' ≡ model_of r) (s : Stage) (k : ∥ Keeps read.model read.stands f' s ∥₁) (mark : Mark) (so_far : OpenList) (answer : Option (Ending (ReceiverFault E))) (buffer buffer' : List ℕ)
-    → Following read fault r.format f' mark so_far r.run s answer buffer buffer' → Judges mark so_far r (record { format = f'; stage = s; run = r.run; keeps = k }) buffer buffer' answer
-judges_following r f' same s k mark so_far answer buffer buffer' go =
-    record { same_format = same; each = λ list st o b is. let p = go list st o b is in (record { stands = p.stands; run_kept = p.run_counts; buffer_kept = p.buffer_is }, p.ended) }
+pub judges_following : {F E : Type 0} (read : Reads F E) (fault : Faults E) (r : Receiver F) (f' : F) (same : read.model f' ≡ read.model r.format) (s : Stage) (mark : Mark) (so_far : OpenList) (answer : Option (Ending (ReceiverFault E))) (buffer buffer' : List ℕ)
+    → Following read fault r.format f' mark so_far r.run s answer buffer buffer' → Judges fault.cause read.model read.stands mark so_far r (record { format = f'; stage = s; run = r.run }) buffer buffer' answer
+judges_following read fault r f' same s mark so_far answer buffer buffer' go =
+    record {
+      same_format = same;
+      each = λ list st o b is.
+          let p = go list st o b is in
+          (record { stage_kept = p.stands.stage_kept; run_kept = p.run_counts; buffer_kept = p.buffer_is; list_stands = p.stands.list_stands; sound = p.stands.sound }, p.ended);
+    }

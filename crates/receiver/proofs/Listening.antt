@@ -4,8 +4,6 @@ use Rattle.std.proofs.lemmas.List.{append_assoc, length_push}
 use Rattle.lines.specs.declared.mark.Mark.{Mark}
 use Rattle.formats.specs.Laws.{Model}
 use Rattle.formats.specs.Verdicts.{Cause}
-use Rattle.formats.specs.declared.fault.Fault.{Ghosts as Faults}
-use Rattle.formats.specs.declared.format.ReadFormat.{Ghosts as Reads}
 use Rattle.hearing.specs.Calls.{Brings, Ends, Listens, Over, Quietly}
 use Rattle.hearing.specs.Rules.{Hearer, hears, nothing}
 use Rattle.hearing.specs.declared.answer.Ending.{Ending}
@@ -34,16 +32,16 @@ module _ {E : Type 0} (cause : E → Cause) (m : Model) (end : Ending (ReceiverF
   brings_last a b (y ∷ ys) x p e = inl (p.0, brings_last (hears m a y).hearer b ys x p.1 e)
 
 -- so far a listen took marks, and none of them brought anything
-pub record Passes {F E : Type 0} {read : Reads F E} {fault : Faults E} (r r' : Receiver F E read fault) (before after : List Mark) (buffer buffer' : List ℕ) (taken : ℕ) : Type 0 where
+pub record Passes {F : Type 0} (model : F → Model) (stands : F → List Mark → Type 0) (r r' : Receiver F) (before after : List Mark) (buffer buffer' : List ℕ) (taken : ℕ) : Type 0 where
   pub marks : List Mark
   pub is_taken : before ≡ marks ++ after
   pub counted : taken ≡ length marks
-  pub same_format : model_of r' ≡ model_of r
-  pub each : (a : Hearer) → At r buffer a → (b : Hearer) × At r' buffer' b × Silently (model_of r) a marks b
+  pub same_format : model r'.format ≡ model r.format
+  pub each : (a : Hearer) → At model stands r buffer a → (b : Hearer) × At model stands r' buffer' b × Silently (model r.format) a marks b
 
-module _ {F E : Type 0} {read : Reads F E} {fault : Faults E} (budget : ℕ) (r r₁ : Receiver F E read fault) (before between : List Mark) (buffer buffer₁ : List ℕ) (taken : ℕ) (so_far : Passes r r₁ before between buffer buffer₁ taken) where
+module _ {F E : Type 0} (cause : E → Cause) (model : F → Model) (stands : F → List Mark → Type 0) (budget : ℕ) (r r₁ : Receiver F) (before between : List Mark) (buffer buffer₁ : List ℕ) (taken : ℕ) (so_far : Passes model stands r r₁ before between buffer buffer₁ taken) where
   -- no frame and no fault
-  pub ends_quietly : (end : Ending (ReceiverFault E)) → Quietly end → taken ≤ budget → Over budget taken between end → Listens fault.cause At model_of budget r r₁ before between buffer buffer₁ (record { taken = taken; ending = end })
+  pub ends_quietly : (end : Ending (ReceiverFault E)) → Quietly end → taken ≤ budget → Over budget taken between end → Listens cause (At model stands) (model_of model) budget r r₁ before between buffer buffer₁ (record { taken = taken; ending = end })
   ends_quietly end q l o =
       record {
         marks = so_far.marks;
@@ -52,24 +50,24 @@ module _ {F E : Type 0} {read : Reads F E} {fault : Faults E} (budget : ℕ) (r 
         afforded = subst (λ n. n ≤ budget) so_far.counted l;
         over = subst (λ n. Over budget n between end) so_far.counted o;
         same_format = so_far.same_format;
-        brought = λ a p. let (b, at_b, s) = so_far.each a p in (b, at_b, brings_quiet fault.cause (model_of r) end a b so_far.marks q s);
+        brought = λ a p. let (b, at_b, s) = so_far.each a p in (b, at_b, brings_quiet cause (model r.format) end a b so_far.marks q s);
       }
 
-  module _ (r₂ : Receiver F E read fault) (x : Mark) (after : List Mark) (buffer₂ : List ℕ) (next : between ≡ x ∷ after) (answer : Option (Ending (ReceiverFault E))) (takes : Takes x r₁ r₂ buffer₁ buffer₂ answer) where
+  module _ (r₂ : Receiver F) (x : Mark) (after : List Mark) (buffer₂ : List ℕ) (next : between ≡ x ∷ after) (answer : Option (Ending (ReceiverFault E))) (takes : Takes cause model stands x r₁ r₂ buffer₁ buffer₂ answer) where
     one_more : before ≡ (so_far.marks ++ (x ∷ [])) ++ after
     one_more = so_far.is_taken ∙ ap (λ l. so_far.marks ++ l) next ∙ sym (append_assoc so_far.marks (x ∷ []) after)
 
     counted_more : taken + 1 ≡ length (so_far.marks ++ (x ∷ []))
     counted_more = ap (λ n. n + 1) so_far.counted ∙ sym (length_push so_far.marks x)
 
-    same : model_of r₂ ≡ model_of r
+    same : model r₂.format ≡ model r.format
     same = takes.same_format ∙ so_far.same_format
 
     -- the mark, from any hearer that the receiver is at
-    stepped : (a b : Hearer) → At r₁ buffer₁ b → At r₂ buffer₂ (hears (model_of r) b x).hearer × EndedBy fault.cause (hears (model_of r) b x).event answer
-    stepped a b p = subst (λ m. At r₂ buffer₂ (hears m b x).hearer × EndedBy fault.cause (hears m b x).event answer) so_far.same_format (takes.each b p)
+    stepped : (a b : Hearer) → At model stands r₁ buffer₁ b → At model stands r₂ buffer₂ (hears (model r.format) b x).hearer × EndedBy cause (hears (model r.format) b x).event answer
+    stepped a b p = subst (λ m. At model stands r₂ buffer₂ (hears m b x).hearer × EndedBy cause (hears m b x).event answer) so_far.same_format (takes.each b p)
 
-    pub passes_more : answer ≡ None → Passes r r₂ before after buffer buffer₂ (taken + 1)
+    pub passes_more : answer ≡ None → Passes model stands r r₂ before after buffer buffer₂ (taken + 1)
     passes_more e =
         record {
           marks = so_far.marks ++ (x ∷ []);
@@ -79,7 +77,7 @@ module _ {F E : Type 0} {read : Reads F E} {fault : Faults E} (budget : ℕ) (r 
           each = λ a p.
               let (b, at_b, s) = so_far.each a p in
               let (at_c, ended) = stepped a b at_b in
-              ((hears (model_of r) b x).hearer, at_c, silently_more (model_of r) a b so_far.marks x s (subst (EndedBy fault.cause (hears (model_of r) b x).event) e ended));
+              ((hears (model r.format) b x).hearer, at_c, silently_more (model r.format) a b so_far.marks x s (subst (EndedBy cause (hears (model r.format) b x).event) e ended));
         }
 
     loud_over : (end : Ending (ReceiverFault E)) → Loud (Some end) → (n : ℕ) → Over budget n after end
@@ -88,7 +86,7 @@ module _ {F E : Type 0} {read : Reads F E} {fault : Faults E} (budget : ℕ) (r 
     loud_over ending.Spent e n = absurd e
     loud_over ending.Empty e n = absurd e
 
-    pub ends_loudly : (end : Ending (ReceiverFault E)) → answer ≡ Some end → Loud answer → taken < budget → Listens fault.cause At model_of budget r r₂ before after buffer buffer₂ (record { taken = taken + 1; ending = end })
+    pub ends_loudly : (end : Ending (ReceiverFault E)) → answer ≡ Some end → Loud answer → taken < budget → Listens cause (At model stands) (model_of model) budget r r₂ before after buffer buffer₂ (record { taken = taken + 1; ending = end })
     ends_loudly end e loud l =
         record {
           marks = so_far.marks ++ (x ∷ []);
@@ -100,5 +98,5 @@ module _ {F E : Type 0} {read : Reads F E} {fault : Faults E} (budget : ℕ) (r 
           brought = λ a p.
               let (b, at_b, s) = so_far.each a p in
               let (at_c, ended) = stepped a b at_b in
-              ((hears (model_of r) b x).hearer, at_c, brings_last fault.cause (model_of r) end a b so_far.marks x s (subst (EndedBy fault.cause (hears (model_of r) b x).event) e ended));
+              ((hears (model r.format) b x).hearer, at_c, brings_last cause (model r.format) end a b so_far.marks x s (subst (EndedBy cause (hears (model r.format) b x).event) e ended));
         }

@@ -1,35 +1,21 @@
--- A receiver that is in no list.
-use Rattle.std.proofs.Common.{◌≡◌, ℕ, Bool, true, false, cond, ltb, List, [], refl, subst, ◌≢◌}
+-- A receiver at a stage.
+use Rattle.std.proofs.Common.{◌≡◌, ℕ, Bool, true, false, cond, ltb, List, [], ◌≢◌}
 use Rattle.lines.specs.declared.mark.Mark.{Mark}
 use Rattle.formats.specs.Laws.{Model}
 use Rattle.hearing.specs.Rules.{Sound, holding, ready, waiting, within}
 use Rattle.hearing.specs.Rules as rules
 use Rattle.hearing.specs.declared.answer.State.TheVariants as state
-use Rattle.receiver.specs.Stages.{Keeps, Stands, kept, list_at, state_kept}
+use Rattle.receiver.specs.Stages.{kept, list_at, state_kept}
 use Rattle.receiver.specs.declared.stage.Stage.{Stage}
 use Rattle.receiver.specs.declared.stage.Stage.TheVariants as stage
 
--- in no list
-abbrev pub Idle : Stage → Type 0
-Idle stage.Waiting = Unit {0}
-Idle stage.Ready = Unit {0}
-Idle (stage.Open list) = ⊥
-Idle (stage.Holding kind octets) = Unit {0}
+-- the receiver is at a stage of the rules: it keeps that stage, and its format stands for the list there
+pub record Stands {F : Type 0} (model : F → Model) (stands : F → List Mark → Type 0) (format : F) (s : Stage) (a : rules.Stage) : Type 0 where
+  pub stage_kept : s ≡ kept (model format) a
+  pub list_stands : stands format (list_at a)
+  pub sound : Sound (model format) a
 
 module _ {F : Type 0} (model : F → Model) (stands : F → List Mark → Type 0) (f : F) where
-  idle_at : (m : Model) (a : rules.Stage) (s : Stage) → s ≡ kept m a → Idle s → stands f (list_at a) → stands f []
-  idle_at m waiting s e i p = p
-  idle_at m ready s e i p = p
-  idle_at m (within list) s e i p = absurd (subst Idle e i)
-  idle_at m (holding kind octets) s e i p = p
-
-  -- in no list the format stands for the empty one
-  pub idle_empty : (s : Stage) → Idle s → Keeps model stands f s → stands f []
-  idle_empty s i k = idle_at (model f) k.0 s k.1.stage_kept i k.1.list_stands
-
-  pub stands_ready : stands f [] → Stands model stands f stage.Ready ready
-  stands_ready p = record { stage_kept = refl; list_stands = p; sound = tt }
-
   -- in no list and without a frame
   pub stands_resting : (s : Stage) (gap run : ℕ) → s ≡ kept (model f) (rules.resting gap run) → stands f [] → Stands model stands f s (rules.resting gap run)
   stands_resting s gap run e p = record { stage_kept = e; list_stands = list (ltb run gap); sound = sound (ltb run gap) }

@@ -2,16 +2,15 @@
 use Rattle.std.proofs.Common.{◌≡◌, ℕ, List, [], ◌∷◌, Option, sym, refl, ap, ◌∙◌, subst}
 use Rattle.lines.specs.declared.mark.Mark.{Mark}
 use Rattle.lines.specs.declared.mark.Mark.TheVariants.{Zero, One, Bad}
+use Rattle.formats.specs.Laws.{Model}
 use Rattle.formats.specs.Marks.{Begins}
-use Rattle.formats.specs.declared.fault.Fault.{Ghosts as Faults}
-use Rattle.formats.specs.declared.format.ReadFormat.{Ghosts as Reads}
+use Rattle.formats.specs.Verdicts.{Cause}
 use Rattle.hearing.proofs.Verdicts.{begins_more}
 use Rattle.hearing.specs.Rules.{Step, by_stage, holding, judged, ready, run_after, waiting, within}
 use Rattle.hearing.specs.Rules as rules
 use Rattle.hearing.specs.declared.answer.Ending.{Ending}
 use Rattle.hearing.specs.declared.fault.ReceiverFault.{ReceiverFault}
-use Rattle.receiver.specs.Places.{At, model_of}
-use Rattle.receiver.specs.Stages.{Keeps, ListKept}
+use Rattle.receiver.specs.Places.{At}
 use Rattle.receiver.specs.Steps.{EndedBy, Judges, Takes}
 use Rattle.receiver.specs.declared.receiver.Receiver.{Receiver}
 use Rattle.receiver.specs.declared.stage.OpenList.{OpenList}
@@ -29,58 +28,48 @@ begins_other Zero n = tt
 begins_other One n = n refl
 begins_other Bad n = tt
 
-module _ {F E : Type 0} {read : Reads F E} {fault : Faults E} (r : Receiver F E read fault) (mark : Mark) where
-  -- at a stage that is open, and at a stage that is ready
-  pub list_of_open : (list : OpenList) → r.stage ≡ stage.Open list → Keeps read.model read.stands r.format r.stage → ListKept read.model read.stands r.format mark list
-  list_of_open list was (waiting, p) = let e = p.stage_kept in cc
-  list_of_open list was (ready, p) = let e = p.stage_kept in cc
-  list_of_open list was (within marks, p) = let e = p.stage_kept in (marks, p.list_stands, p.sound.1, begins_more marks (mark ∷ []) p.sound.0, cc)
-  list_of_open list was (holding kind count, p) = let e = p.stage_kept in cc
+module _ {F E : Type 0} (cause : E → Cause) (model : F → Model) (stands : F → List Mark → Type 0) (r : Receiver F) (mark : Mark) where
+  abbrev m : Model
+  m = model r.format
 
-  pub list_of_ready : (list : OpenList) → list ≡ empty → r.stage ≡ stage.Ready → (mark ≡ One → ⊥) → Keeps read.model read.stands r.format r.stage → ListKept read.model read.stands r.format mark list
-  list_of_ready list none was other (waiting, p) = let e = p.stage_kept in cc
-  list_of_ready list none was other (ready, p) = ([], p.list_stands, tt, begins_other mark other, none)
-  list_of_ready list none was other (within marks, p) = let e = p.stage_kept in cc
-  list_of_ready list none was other (holding kind count, p) = let e = p.stage_kept in cc
-
-  module _ (run' : ℕ) (k : ∥ Keeps read.model read.stands r.format r.stage ∥₁) (counts : run' ≡ run_after (model_of r).gap r.run mark) (r' : Receiver F E read fault) (buffer buffer' : List ℕ) (answer : Option (Ending (ReceiverFault E))) where
+  module _ (run' : ℕ) (counts : run' ≡ run_after m.gap r.run mark) (r' : Receiver F) (buffer buffer' : List ℕ) (answer : Option (Ending (ReceiverFault E))) where
     -- the mark counted in the run
-    abbrev counted : Receiver F E read fault
-    counted = record { format = r.format; stage = r.stage; run = run'; keeps = k }
+    abbrev counted : Receiver F
+    counted = record { format = r.format; stage = r.stage; run = run' }
 
     -- what is said of a step
     abbrev Said : Step → Type 0
-    Said s = At r' buffer' s.hearer × EndedBy fault.cause s.event answer
+    Said s = At model stands r' buffer' s.hearer × EndedBy cause s.event answer
 
     -- the same list by the hearer's run and buffer
-    same_step : (list : List Mark) (n : ℕ) (b : List ℕ) → r.run ≡ n → b ≡ buffer → Said (judged (model_of r) list run' buffer mark) → Said (judged (model_of r) list (run_after (model_of r).gap n mark) b mark)
+    same_step : (list : List Mark) (n : ℕ) (b : List ℕ) → r.run ≡ n → b ≡ buffer → Said (judged m list run' buffer mark) → Said (judged m list (run_after m.gap n mark) b mark)
     same_step list n b en eb p =
-        let runs : run' ≡ run_after (model_of r).gap n mark = counts ∙ ap (λ k. run_after (model_of r).gap k mark) en in
-        subst (λ k. Said (judged (model_of r) list k b mark)) runs (subst (λ l. Said (judged (model_of r) list run' l mark)) (sym eb) p)
+        let runs : run' ≡ run_after m.gap n mark = counts ∙ ap (λ k. run_after m.gap k mark) en in
+        subst (λ k. Said (judged m list k b mark)) runs (subst (λ l. Said (judged m list run' l mark)) (sym eb) p)
 
-    module _ (so_far : OpenList) (was : r.stage ≡ stage.Open so_far) (is : Judges mark so_far counted r' buffer buffer' answer) where
-      in_open : (s : rules.Stage) (n : ℕ) (b : List ℕ) → At r buffer (record { stage = s; run = n; buffer = b }) → Said (by_stage (model_of r) s (run_after (model_of r).gap n mark) b mark)
-      in_open waiting n b p = let e = p.stands.stage_kept in cc
-      in_open ready n b p = let e = p.stands.stage_kept in cc
+    module _ (so_far : OpenList) (was : r.stage ≡ stage.Open so_far) (is : Judges cause model stands mark so_far counted r' buffer buffer' answer) where
+      in_open : (s : rules.Stage) (n : ℕ) (b : List ℕ) → At model stands r buffer (record { stage = s; run = n; buffer = b }) → Said (by_stage m s (run_after m.gap n mark) b mark)
+      in_open waiting n b p = let e = p.stage_kept in cc
+      in_open ready n b p = let e = p.stage_kept in cc
       in_open (within list) n b p =
-          let e = p.stands.stage_kept in
-          same_step list n b p.run_kept p.buffer_kept (is.each list p.stands.list_stands p.stands.sound.1 (begins_more list (mark ∷ []) p.stands.sound.0) (cc))
-      in_open (holding kind count) n b p = let e = p.stands.stage_kept in cc
+          let e = p.stage_kept in
+          same_step list n b p.run_kept p.buffer_kept (is.each list p.list_stands p.sound.1 (begins_more list (mark ∷ []) p.sound.0) (cc))
+      in_open (holding kind count) n b p = let e = p.stage_kept in cc
 
-      pub takes_open : Takes mark r r' buffer buffer' answer
+      pub takes_open : Takes cause model stands mark r r' buffer buffer' answer
       takes_open = record { same_format = is.same_format; each = λ a p. in_open a.stage a.run a.buffer p }
 
-    module _ (so_far : OpenList) (none : so_far ≡ empty) (was : r.stage ≡ stage.Ready) (other : mark ≡ One → ⊥) (is : Judges mark so_far counted r' buffer buffer' answer) where
-      opens : (x : Mark) → mark ≡ x → (n : ℕ) (b : List ℕ) → Said (judged (model_of r) [] (run_after (model_of r).gap n mark) b mark) → Said (by_stage (model_of r) ready (run_after (model_of r).gap n mark) b x)
-      opens Zero e n b p = subst (λ y. Said (judged (model_of r) [] (run_after (model_of r).gap n mark) b y)) e p
+    module _ (so_far : OpenList) (none : so_far ≡ empty) (was : r.stage ≡ stage.Ready) (other : mark ≡ One → ⊥) (is : Judges cause model stands mark so_far counted r' buffer buffer' answer) where
+      opens : (x : Mark) → mark ≡ x → (n : ℕ) (b : List ℕ) → Said (judged m [] (run_after m.gap n mark) b mark) → Said (by_stage m ready (run_after m.gap n mark) b x)
+      opens Zero e n b p = subst (λ y. Said (judged m [] (run_after m.gap n mark) b y)) e p
       opens One e n b p = absurd (other e)
-      opens Bad e n b p = subst (λ y. Said (judged (model_of r) [] (run_after (model_of r).gap n mark) b y)) e p
+      opens Bad e n b p = subst (λ y. Said (judged m [] (run_after m.gap n mark) b y)) e p
 
-      in_ready : (s : rules.Stage) (n : ℕ) (b : List ℕ) → At r buffer (record { stage = s; run = n; buffer = b }) → Said (by_stage (model_of r) s (run_after (model_of r).gap n mark) b mark)
-      in_ready waiting n b p = let e = p.stands.stage_kept in cc
-      in_ready ready n b p = opens mark refl n b (same_step [] n b p.run_kept p.buffer_kept (is.each [] p.stands.list_stands tt (begins_other mark other) none))
-      in_ready (within list) n b p = let e = p.stands.stage_kept in cc
-      in_ready (holding kind count) n b p = let e = p.stands.stage_kept in cc
+      in_ready : (s : rules.Stage) (n : ℕ) (b : List ℕ) → At model stands r buffer (record { stage = s; run = n; buffer = b }) → Said (by_stage m s (run_after m.gap n mark) b mark)
+      in_ready waiting n b p = let e = p.stage_kept in cc
+      in_ready ready n b p = opens mark refl n b (same_step [] n b p.run_kept p.buffer_kept (is.each [] p.list_stands tt (begins_other mark other) none))
+      in_ready (within list) n b p = let e = p.stage_kept in cc
+      in_ready (holding kind count) n b p = let e = p.stage_kept in cc
 
-      pub takes_first : Takes mark r r' buffer buffer' answer
+      pub takes_first : Takes cause model stands mark r r' buffer buffer' answer
       takes_first = record { same_format = is.same_format; each = λ a p. in_ready a.stage a.run a.buffer p }

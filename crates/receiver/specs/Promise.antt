@@ -8,4 +8,4 @@ use Rattle.hearing.specs.Promise.{Promise}
 use Rattle.receiver.specs.Places.{At, model_of, standing_of}
 
 abbrev pub ReceiverPromise : {F E L : Type 0} → Reads F E → Faults E → (L → List Mark) → Type 0
-ReceiverPromise read fault pending = Promise fault.cause (At {read = read} {fault = fault}) model_of standing_of pending
+ReceiverPromise read fault pending = Promise fault.cause (At read.model read.stands) (model_of read.model) standing_of pending

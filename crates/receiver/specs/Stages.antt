@@ -1,10 +1,8 @@
--- Where a receiver is, in the words of the rules.
-use Rattle.std.specs.Prelude.{◌≡◌, ◌+◌, List, [], ◌∷◌, ◌++◌, length}
+-- What a receiver keeps of where it is, in the words of the rules.
+use Rattle.std.specs.Prelude.{◌+◌, List, [], length}
 use Rattle.lines.specs.declared.mark.Mark.{Mark}
 use Rattle.formats.specs.Laws.{Model}
-use Rattle.formats.specs.Marks.{Begins}
-use Rattle.formats.specs.Verdicts.{OpenAlong}
-use Rattle.hearing.specs.Rules.{Sound, count_told, holding, ready, waiting, within}
+use Rattle.hearing.specs.Rules.{count_told, holding, ready, waiting, within}
 use Rattle.hearing.specs.Rules as rules
 use Rattle.hearing.specs.declared.answer.State.{State}
 use Rattle.hearing.specs.declared.answer.State.TheVariants as state
@@ -41,18 +39,3 @@ state_kept Waiting = state.Waiting
 state_kept Ready = state.Ready
 state_kept (Open list) = state.Open
 state_kept (Holding kind octets) = state.Holding
-
--- the receiver is at a stage of the rules: it keeps that stage, and its format stands for the list there
-pub record Stands {F : Type 0} (model : F → Model) (stands : F → List Mark → Type 0) (format : F) (s : Stage) (a : rules.Stage) : Type 0 where
-  pub stage_kept : s ≡ kept (model format) a
-  pub list_stands : stands format (list_at a)
-  pub sound : Sound (model format) a
-
--- it is at one of them
-abbrev pub Keeps : {F : Type 0} → (F → Model) → (F → List Mark → Type 0) → F → Stage → Type 0
-Keeps model stands format s = (a : rules.Stage) × Stands model stands format s a
-
--- the format stands for a list of which so much is kept, and which is open, or is opened by the mark
-abbrev pub ListKept : {F : Type 0} → (F → Model) → (F → List Mark → Type 0) → F → Mark → OpenList → Type 0
-ListKept model stands format mark so_far =
-    (list : List Mark) × stands format list × OpenAlong (model format).verdict [] list × Begins (list ++ (mark ∷ [])) × (so_far ≡ list_kept (model format) list)

@@ -14,8 +14,7 @@ pub fn never_deaf_and_never_deceived<F: ReadFormat, L: Line>(
     _line: &L,
 ) -> u8
     ensures promise { ReceiverPromise F.ReadFormat F.Fault.Fault L.Line.pending }
-    ensures distance { result ≡ (model_of receiver.now).distance }
-    ensures named { result ≡ F.DISTANCE }
+    ensures distance { result ≡ (model_of F.ReadFormat.model receiver.now).distance }
 {
     receiver.format().hamming_distance()
 }

@@ -1,8 +1,5 @@
 // The receiver. Its format is held by value; the line and the frame buffer are handed in to the calls.
-ghost use Rattle.receiver.specs.Stages.{Keeps};
-
 use crate::stage::Stage;
-use formats::format::ReadFormat;
 
 mod calls;
 
@@ -10,11 +7,11 @@ mod calls;
 pub const FRAME_OCTETS: usize = 255;
 
 // Hears the frames of one format. The run is the number of marks of 1 that came last, counted up to the gap.
+// Kept without an invariant that the format stands for the list so far: each type that holds a receiver would have to name
+// the bound. The calls say it of each list for which the format stands.
 #[derive(Drop)]
-pub struct Receiver<F: ReadFormat> {
+pub struct Receiver<F> {
     format: F,
     stage: Stage,
     run: u16,
-    // the format stands for the list so far
-    ghost keeps: { ∥ Keeps F.ReadFormat.model F.ReadFormat.stands format stage ∥₁ },
 }

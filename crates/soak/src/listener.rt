@@ -9,7 +9,7 @@ use lines::mark_record::MarkRecord;
 use receiver::receiver::{FRAME_OCTETS, Receiver};
 
 #[derive(Drop)]
-pub struct Listener<F: ReadFormat> {
+pub struct Listener<F> {
     receiver: Receiver<F>,
     buffer: [u8; FRAME_OCTETS],
     pub tally: Tally,

@@ -3,7 +3,6 @@ ghost use Rattle.std.specs.Prelude.{◌≡◌, ℕ, List, ◌++◌, Ok, Err, Mat
 ghost use Rattle.hearing.specs.Calls.{Begun, Listened, Looked, Released};
 ghost use Rattle.hearing.specs.Rules.{run_after};
 ghost use Rattle.receiver.specs.Places.{At, model_of, standing_of};
-ghost use Rattle.receiver.specs.Stages.{ListKept};
 ghost use Rattle.receiver.specs.Steps.{Judges, Loud, Takes};
 
 use super::{FRAME_OCTETS, Receiver};
@@ -30,8 +29,8 @@ fn run_after(gap: u16, run: u16, mark: Mark) -> u16
 impl<F: ReadFormat> Receiver<F> {
     // A new receiver is waiting.
     pub fn new(mut format: F) -> Self
-        ensures begun { Begun At standing_of result }
-        ensures same { model_of result ≡ F.ReadFormat.model format }
+        ensures begun { Begun (At F.ReadFormat.model F.ReadFormat.stands) standing_of result }
+        ensures same { model_of F.ReadFormat.model result ≡ F.ReadFormat.model format }
     {
         format.restart();
         Receiver {
@@ -59,7 +58,7 @@ impl<F: ReadFormat> Receiver<F> {
 
     // The user octets of the frame that is held.
     pub fn look<'a>(&self, buffer: &'a [u8]) -> Result<UserOctets<'a>, ReceiverRefusal>
-        ensures { MatchResult result (λ u. Looked At standing_of self.now buffer.now (Ok u.octets.now)) (λ e. Looked At standing_of self.now buffer.now (Err e)) }
+        ensures { MatchResult result (λ u. Looked (At F.ReadFormat.model F.ReadFormat.stands) standing_of self.now buffer.now (Ok u.octets.now)) (λ e. Looked (At F.ReadFormat.model F.ReadFormat.stands) standing_of self.now buffer.now (Err e)) }
     {
         let frame = buffer
             .first_chunk::<FRAME_OCTETS>()
@@ -70,7 +69,7 @@ impl<F: ReadFormat> Receiver<F> {
 
     // Makes a receiver that holds a frame ready for the next.
     pub fn release(&mut self) -> Result<(), ReceiverRefusal>
-        ensures { Released At model_of standing_of self.old self.new result }
+        ensures { Released (At F.ReadFormat.model F.ReadFormat.stands) (model_of F.ReadFormat.model) standing_of self.old self.new result }
     {
         self.stage.held().ok_or(ReceiverRefusal::NotHolding)?;
         self.stage = Stage::Ready;
@@ -84,9 +83,8 @@ impl<F: ReadFormat> Receiver<F> {
         list: OpenList,
         frame: &mut [u8; FRAME_OCTETS],
     ) -> Option<Ending<ReceiverFault<F::Fault>>>
-        requires { ∥ ListKept F.ReadFormat.model F.ReadFormat.stands self.old.format mark list ∥₁ }
         ensures loud { Loud result }
-        ensures judges { (rest : List ℕ) → Judges mark list self.old self.new (frame.old ++ rest) (frame.new ++ rest) result }
+        ensures judges { (rest : List ℕ) → Judges F.Fault.Fault.cause F.ReadFormat.model F.ReadFormat.stands mark list self.old self.new (frame.old ++ rest) (frame.new ++ rest) result }
     {
         let OpenList { marks, octets } = list;
         match self.format.add(mark) {
@@ -116,7 +114,7 @@ impl<F: ReadFormat> Receiver<F> {
         frame: &mut [u8; FRAME_OCTETS],
     ) -> Option<Ending<ReceiverFault<F::Fault>>>
         ensures loud { Loud result }
-        ensures takes { (rest : List ℕ) → Takes mark self.old self.new (frame.old ++ rest) (frame.new ++ rest) result }
+        ensures takes { (rest : List ℕ) → Takes F.Fault.Fault.cause F.ReadFormat.model F.ReadFormat.stands mark self.old self.new (frame.old ++ rest) (frame.new ++ rest) result }
     {
         let gap = self.format.gap();
         self.run = run_after(gap, self.run, mark);
@@ -138,7 +136,7 @@ impl<F: ReadFormat> Receiver<F> {
         buffer: &mut [u8],
         budget: u16,
     ) -> Result<Heard<ReceiverFault<F::Fault>>, ReceiverRefusal>
-        ensures { Listened F.Fault.Fault.cause At model_of standing_of L.Line.pending budget self.old self.new line.old line.new buffer.old buffer.new result }
+        ensures { Listened F.Fault.Fault.cause (At F.ReadFormat.model F.ReadFormat.stands) (model_of F.ReadFormat.model) standing_of L.Line.pending budget self.old self.new line.old line.new buffer.old buffer.new result }
     {
         let frame = buffer
             .first_chunk_mut::<FRAME_OCTETS>()

@@ -35,7 +35,7 @@ held-entry-requires g c =
     let l = (rw c.unwrap-heard.ensures at c.listen.ensures).2 in
     let i = c.loop-entries.invariant in
     let b = comes l (Frame c.in-Frame.kind c.in-Frame.octets) c.in-Frame.is i.hearer i.here i.free in
-    holds c.listen.new.self c.listen.new.buffer b.0 c.in-Frame.kind c.in-Frame.octets b.1 b.2.0
+    holds g.F.ReadFormat.model g.F.ReadFormat.stands c.listen.new.self c.listen.new.buffer b.0 c.in-Frame.kind c.in-Frame.octets b.1 b.2.0
 
 pub loop-entries-preserved : goal.loop-entries-preserved
 loop-entries-preserved g c =

@@ -10,7 +10,7 @@ returns-in_err-octets-in-Look g c =
     let back = c.from_residual-in_err-octets-in-Look in
     let p = err_from_is_err_and back.result back.ensures.1 in
     let refused = Err c.in_err-octets-in-Look.field-0.0 in
-    let P : List ℕ → Type 0 = λ xs. calls.Looked At standing_of c.args.receiver.now xs refused in
+    let P : List ℕ → Type 0 = λ xs. calls.Looked (At g.F.ReadFormat.model g.F.ReadFormat.stands) standing_of c.args.receiver.now xs refused in
     let none : P (vec_items c.args.buffers.now.frame) = subst P c.as_slice-in-Look.ensures.value c.in_err-octets-in-Look.ensures in
     rw (c.in-Look.is, p.1, p.2) ((refused, none, refl), refl, refl, refl)
 

@@ -4,7 +4,6 @@ use Rattle.std.proofs.lemmas.Result.{err_from_is_err_and}
 use Rattle.hearing.specs.declared.refusal.ReceiverRefusal.TheVariants.{NotHolding, ShortBuffer}
 use Rattle.receiver.proofs.Asked.{from_err, from_ok, whole}
 use Rattle.receiver.proofs.Stages.{Free, Holds, held_at}
-use Rattle.receiver.specs.Places.{model_of}
 use Rattle.receiver.specs.Stages.{state_kept}
 use Rattle.receiver.proofs.receiver.Receiver.look.Goals as goal
 
@@ -26,6 +25,6 @@ returns g c =
       chunk.enough,
       ap state_kept held.1,
       λ a p.
-          let (kind, here) = held_at (model_of self) a.stage self.stage c.in_ok-octets.octets p.stands.stage_kept held in
+          let (kind, here) = held_at (g.F.ReadFormat.model self.format) a.stage self.stage c.in_ok-octets.octets p.stage_kept held in
           (kind, c.in_ok-octets.octets, here, c.first.ensures (drop 255 buffer) ∙ ap (take c.in_ok-octets.octets) (whole buffer c.in_ok-frame.frame.now chunk)),
     )
