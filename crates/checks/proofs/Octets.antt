@@ -64,6 +64,10 @@ octet_of_eight u e = ap (λ n. bits n (value u)) (sym e) ∙ bits_value u
 pub value_octet : (a : ℕ) → a < 256 → value (octet_bits a) ≡ a
 value_octet a h = value_bits 8 a ∙ mod-eq_of_lt h
 
+-- an octet's bits, highest first, determine the octet
+pub octet_bits_injective : (a b : ℕ) → a < 256 → b < 256 → octet_bits a ≡ octet_bits b → a ≡ b
+octet_bits_injective a b ha hb e = sym (value_octet a ha) ∙ ap value e ∙ value_octet b hb
+
 pub check_octet_lt : (u : List Bool) → check_octet u < 256
 unfolding check_octet
 check_octet_lt u = subst (λ n. value (check_bits u) < 2 ^ n) (length_check u) (value_lt (check_bits u))
@@ -71,6 +75,11 @@ check_octet_lt u = subst (λ n. value (check_bits u) < 2 ^ n) (length_check u) (
 pub check_octet_bits : (u : List Bool) → octet_bits (check_octet u) ≡ check_bits u
 unfolding check_octet
 check_octet_bits u = octet_of_eight (check_bits u) (length_check u)
+
+-- eight bits are the check where their octet is the check octet
+pub check_by_octet : (u : List Bool) (c : List Bool) → length c ≡ 8 → value c ≡ check_octet u → c ≡ check_bits u
+unfolding check_octet
+check_by_octet u c l e = value_same c (check_bits u) (l ∙ sym (length_check u)) e
 
 -- a number and its inverse make ones only
 pub value_not : (u : List Bool) → suc (value (map not u) + value u) ≡ 2 ^ length u

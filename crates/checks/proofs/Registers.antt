@@ -9,7 +9,7 @@ use Rattle.std.proofs.lemmas.Bool.{cases_eq}
 use Rattle.checks.specs.Bits.{bits, octet_bits, block_bits, value, odd_ones}
 use Rattle.checks.specs.Division.{reduced, step, remainder}
 use Rattle.checks.specs.Check.{generator, remainder_bits, check_bits, check_octet}
-use Rattle.checks.proofs.Folding.{plus, taken, reduced_above, remainder_append}
+use Rattle.checks.proofs.Folding.{plus, taken, reduced_below, reduced_above, remainder_append}
 use Rattle.checks.proofs.Weights.{t_left, t_right}
 use Rattle.checks.proofs.Words.{odd_append}
 
@@ -18,6 +18,11 @@ use Rattle.checks.proofs.Words.{odd_append}
 entering : (r x : ℕ) (b : Bool) → r < 128 → x ≡ bool_byte b → bit_xor (r * 2 % 256) (x * 128 % 256) ≡ taken 7 r b
 entering r x true h e = ap₂ bit_xor (mod-eq_of_lt (omega arith)) (ap (λ y. y * 128 % 256) e)
 entering r x false h e = ap₂ bit_xor (mod-eq_of_lt (omega arith)) (ap (λ y. y * 128 % 256) e)
+
+-- the two ways of the reduction
+pub step_below : (r x : ℕ) (b : Bool) → r < 128 → x ≡ bool_byte b → bit_xor (r * 2 % 256) (x * 128 % 256) < 128 → bit_xor (r * 2 % 256) (x * 128 % 256) ≡ step 7 generator r b
+step_below r x b h e below =
+    sym (reduced_below 7 generator (bit_xor (r * 2 % 256) (x * 128 % 256)) below) ∙ ap (reduced 7 generator) (entering r x b h e)
 
 pub step_above : (r x : ℕ) (b : Bool) → r < 128 → x ≡ bool_byte b → 128 ≤ bit_xor (r * 2 % 256) (x * 128 % 256) → bit_xor (bit_xor (r * 2 % 256) (x * 128 % 256)) generator ≡ step 7 generator r b
 step_above r x b h e above =

@@ -21,6 +21,9 @@ pub record Sofar (text rest octets : List ℕ) : Type 0 where
   pub cuts : Cuts text words rest
   pub writes : map octet_of words ≡ map Some octets
 
+pub none_yet : (text : List ℕ) → Sofar text text []
+none_yet text = record { words = []; cuts = refl; writes = refl }
+
 pub one_more : {text at octets : List ℕ} → Sofar text at octets → (word rest : List ℕ) (octet : ℕ) → First at word rest → octet_of word ≡ Some octet → Sofar text rest (octets ++ (octet ∷ []))
 one_more {text} {at} {octets} old word rest octet first e = record {
   words = old.words ++ (word ∷ []);

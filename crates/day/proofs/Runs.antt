@@ -1,5 +1,5 @@
 -- What a listen's marks come to.
-use Rattle.std.proofs.Common.{◌≡◌, ℕ, Bool, true, false, cond, ltb, List, [], ◌∷◌, ◌++◌, length, take, sym, refl, ap, ◌∙◌, subst, inl, inr}
+use Rattle.std.proofs.Common.{◌≡◌, ℕ, ◌≤◌, Bool, true, false, cond, ltb, List, [], ◌∷◌, ◌++◌, length, take, sym, refl, ap, ◌∙◌, subst, inl, inr, arith}
 use Rattle.lines.specs.declared.mark.Mark.{Mark}
 use Rattle.lines.specs.declared.mark.Mark.TheVariants.{Zero, One, Bad}
 use Rattle.formats.specs.Laws.{Model}
@@ -84,3 +84,8 @@ module _ {E : Type 0} (cause : E → Cause) (m : Model) (rest : List Mark) where
       earlier a h (x ∷ (xs ++ rest)) (xs ++ rest) end b p (came xs h end b free' goes.1)
   came (x ∷ xs) a end b free (inr ends) =
       last_mark (hears m a x).event (hears m a x).hearer b end a (x ∷ (xs ++ rest)) (xs ++ rest) (heard_after m a x free) refl (ap (λ ys. ys ++ rest) ends.1) ends.2 ends.0
+
+  -- a frame or a fault is brought by a mark
+  pub some_mark : (marks : List Mark) (a b : Hearer) (end : Ending (ReceiverFault E)) → ((x : Brings cause m a [] end b) → ⊥) → Brings cause m a marks end b → 1 ≤ length marks
+  some_mark [] a b end loud brings = absurd (loud brings)
+  some_mark (x ∷ xs) a b end loud brings = omega arith

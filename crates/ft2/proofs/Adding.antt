@@ -19,7 +19,7 @@ use Rattle.ft2.specs.declared.reader.Position.TheVariants as position
 use Rattle.ft2.specs.declared.reader.Reader.{Reader}
 
 -- at rest the reader holds the beginning, and only there
-rest_start : (r : Reader) (s : Reading) → Holds r s → AtRest r → s ≡ beginning start
+pub rest_start : (r : Reader) (s : Reading) → Holds r s → AtRest r → s ≡ beginning start
 rest_start r s h rest = go s.place s.part (sym h.at_place.position_is ∙ rest.0) (sym h.part_is ∙ rest.1)
   where
     go : (p : Place) (a : Part) → position_of p ≡ position.Start → a ≡ First → ◌≡◌ {A = Reading} (record { place = p; part = a }) (beginning start)
@@ -27,7 +27,7 @@ rest_start r s h rest = go s.place s.part (sym h.at_place.position_is ∙ rest.0
     go (user b os left) a e f = cc
     go (check b os) a e f = cc
 
-start_rest : (r : Reader) (s : Reading) → Holds r s → s ≡ beginning start → AtRest r
+pub start_rest : (r : Reader) (s : Reading) → Holds r s → s ≡ beginning start → AtRest r
 start_rest r s h e = (h.at_place.position_is ∙ ap (λ x. position_of x.place) e, h.part_is ∙ ap (λ x. x.part) e)
 
 module _ (settings : Settings) where

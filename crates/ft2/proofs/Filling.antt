@@ -1,16 +1,17 @@
 -- Octets and blocks in a mark buffer.
-use Rattle.std.proofs.Common.{◌≡◌, ℕ, zero, suc, ◌+◌, ◌*◌, ◌<◌, ◌≤◌, min, Bool, true, false, List, [], ◌∷◌, ◌++◌, map, length, get_or, take, drop, sym, refl, ap, ◌∙◌, subst, ap₂, inl, inr, arith, length-append, length-drop}
+use Rattle.std.proofs.Common.{◌≡◌, ℕ, zero, suc, ◌+◌, ◌*◌, ◌<◌, ◌≤◌, min, Bool, true, false, List, [], ◌∷◌, ◌++◌, map, length, get_or, take, drop, set, sym, refl, ap, ◌∙◌, subst, ap₂, inl, inr, append_assoc, arith, length-append, length-drop}
 use mir.Val.{bool_byte}
 use borrow.Rule.Slice.PartMut.{put_mid}
 use Rattle.std.proofs.lemmas.Bool.{cases_lt}
 use Rattle.std.proofs.lemmas.Grind.{same_number_lists}
-use Rattle.std.proofs.lemmas.List.{append-nil, drop_all, drop_at, get_or-map, length-map, nil_from_length, take_all, take_at, take_more}
+use Rattle.std.proofs.lemmas.List.{append-nil, drop_all, drop_at, drop_more, get_or-map, length-map, length_push, map_push, nil_from_length, set_at, take_all, take_at, take_more}
 use Rattle.std.proofs.lemmas.List.Edits.{paste_none}
 use Rattle.std.proofs.lemmas.Slice.{put_mid-paste}
 use Rattle.checks.specs.Bits.{octet_bits}
 use Rattle.lines.specs.Characters.{mark_if}
 use Rattle.lines.specs.Records.{mark_octet}
 use Rattle.lines.specs.declared.mark.Mark.{Mark}
+use Rattle.formats.specs.Answers.{filled}
 use Rattle.formats.specs.Putting.{Put}
 use Rattle.formats.proofs.Putting.{put_join, put_same}
 use Rattle.ft2_laws.specs.Frames.{check_of, cut_in, in_blocks, marks_of, octet_marks, with_check}
@@ -22,6 +23,19 @@ put_none at entry = record { behind = omega arith; held = paste_none entry at []
 digit : (b : Bool) → bool_byte b ≡ mark_octet (mark_if b)
 digit true = refl
 digit false = refl
+
+-- one mark more behind those that the buffer is filled with
+pub set_filled : (done : List Mark) (before : List ℕ) (m : Mark) (n v : ℕ) → length done ≡ n → n < length (filled done before) → v ≡ mark_octet m → set (filled done before) n v ≡ filled (done ++ (m ∷ [])) before
+set_filled done before m n v l room is =
+    let front : List ℕ = map mark_octet done in
+    let lf : length front ≡ n = length-map done mark_octet ∙ l in
+    let inside : n < length before = omega (arith, room, length-append front (drop (length done) before), lf, length-drop (length done) before) in
+    ap (λ k. set (front ++ drop k before) n v) l
+    ∙ ap (λ xs. set (front ++ xs) n v) (drop_more before n 0 inside)
+    ∙ set_at front (get_or before n 0) (drop (n + 1) before) v n lf
+    ∙ ap (λ x. front ++ (x ∷ drop (n + 1) before)) is
+    ∙ sym (append_assoc front (mark_octet m ∷ []) (drop (n + 1) before))
+    ∙ ap₂ (λ x k. x ++ drop k before) (sym (map_push mark_octet done m)) (sym (length_push done m ∙ ap (λ k. k + 1) l))
 
 -- the bytes of an octet's bits are its marks
 pub octet_digits : (o : ℕ) (bs : List Bool) (ys : List ℕ) → bs ≡ octet_bits o → length ys ≡ 8 → ((i : ℕ) → i < 8 → get_or ys i 0 ≡ bool_byte (get_or bs i false)) → ys ≡ map mark_octet (octet_marks o)
@@ -65,7 +79,7 @@ cut_enough (suc f) (suc g) [] a b = refl
 cut_enough (suc f) (suc g) (o ∷ os) a b =
     ap (λ x. with_check (take 15 (o ∷ os)) ++ x) (cut_enough f g (drop 15 (o ∷ os)) (omega (arith, length-drop 15 (o ∷ os))) (omega (arith, length-drop 15 (o ∷ os))))
 
-cut_next : (os : List ℕ) → 0 < length os → in_blocks os ≡ with_check (take 15 os) ++ in_blocks (drop 15 os)
+pub cut_next : (os : List ℕ) → 0 < length os → in_blocks os ≡ with_check (take 15 os) ++ in_blocks (drop 15 os)
 cut_next [] h = absurd (omega (arith, h))
 cut_next (o ∷ os) h =
     ap (λ x. with_check (take 15 (o ∷ os)) ++ x) (cut_enough (length os) (length (drop 15 (o ∷ os))) (drop 15 (o ∷ os)) (omega (arith, length-drop 15 (o ∷ os))) (omega arith))

@@ -82,22 +82,16 @@ impl Reader {
         let bit = u8::from(good_mark(mark)?);
         match self.part {
             Part::First => {
-                self.part = Part::Later {
-                    left: 6,
-                    octet: bit,
-                };
+                self.part = Part::Later(6, bit);
                 Ok(Progress::Open)
             },
-            Part::Later { left: 0, octet } => {
+            Part::Later(0, octet) => {
                 let progress = self.judge(settings, (octet << 1) + bit)?;
                 self.part = Part::First;
                 Ok(progress)
             },
-            Part::Later { left, octet } => {
-                self.part = Part::Later {
-                    left: left - 1,
-                    octet: (octet << 1) + bit,
-                };
+            Part::Later(left, octet) => {
+                self.part = Part::Later(left - 1, (octet << 1) + bit);
                 Ok(Progress::Open)
             },
         }

@@ -6,7 +6,7 @@ use Rattle.checks.specs.Bits.{block_bits}
 use Rattle.checks.proofs.Octets.{check_octet_lt}
 use Rattle.lines.specs.declared.mark.Mark.{Mark}
 use Rattle.formats.specs.Laws.{Octets}
-use Rattle.formats.specs.Verdicts.{Verdict, open_list, tells, frame_of, Open, octet_told}
+use Rattle.formats.specs.Verdicts.{Cause, Verdict, open_list, tells, frame_of, fault_of, Open, octet_told}
 use Rattle.formats.proofs.Machines.{Breaks, told}
 use Rattle.formats.proofs.Octets.{octets_join}
 use Rattle.ft2_laws.specs.Faults.{faulty}
@@ -32,6 +32,20 @@ octets_back (o ∷ os) ps a = octets_back os ps a.1
 
 pub octets_checked : (os : List ℕ) → Octets os → Octets (with_check os)
 octets_checked os a = octets_join os (check_of os ∷ []) a (check_octet_lt (block_bits os), tt)
+
+-- Verdicts apart.
+
+pub open_no_frame : (n : ℕ) → open_list ≡ frame_of n → ⊥
+open_no_frame n e = cc
+
+pub tells_no_frame : (o n : ℕ) → tells o ≡ frame_of n → ⊥
+tells_no_frame o n e = cc
+
+pub fault_no_frame : (c : Cause) (n : ℕ) → fault_of c ≡ frame_of n → ⊥
+fault_no_frame c n e = cc
+
+pub same_frame : (k n : ℕ) → frame_of k ≡ frame_of n → n ≡ k
+same_frame k n e = cc
 
 -- An octet that must be a certain one.
 

@@ -15,5 +15,5 @@ pub enum Part {
     // none of its marks has come
     First,
     // how many marks come after the next one, and the octet so far, the latest bit lowest
-    Later { left: u8, octet: u8 },
+    Later(u8, u8),
 }

@@ -9,15 +9,15 @@ use denote.Param.Members.{Mut}
 use Rattle.readings.specs.Numbers.{digits_on, with_digit}
 
 -- what is no number stays none
-none_on : (symbols : List ℕ) → digits_on None symbols ≡ None
+pub none_on : (symbols : List ℕ) → digits_on None symbols ≡ None
 none_on [] = refl
 none_on (x ∷ xs) = none_on xs
 
-no_more : (o : Option ℕ) (symbols : List ℕ) → length symbols ≡ 0 → digits_on o symbols ≡ o
+pub no_more : (o : Option ℕ) (symbols : List ℕ) → length symbols ≡ 0 → digits_on o symbols ≡ o
 no_more o [] e = refl
 no_more o (x ∷ xs) e = absurd (omega arith)
 
-next_digit : (number : ℕ) (symbols rest : List ℕ) (symbol : ℕ) (o : Option ℕ) → symbols ≡ symbol ∷ rest → o ≡ with_digit number symbol → digits_on (Some number) symbols ≡ digits_on o rest
+pub next_digit : (number : ℕ) (symbols rest : List ℕ) (symbol : ℕ) (o : Option ℕ) → symbols ≡ symbol ∷ rest → o ≡ with_digit number symbol → digits_on (Some number) symbols ≡ digits_on o rest
 next_digit number symbols rest symbol o e p = ap (digits_on (Some number)) e ∙ ap (λ v. digits_on v rest) (sym p)
 
 -- a `try_fold` with a call that takes one digit more
