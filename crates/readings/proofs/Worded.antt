@@ -1,5 +1,5 @@
 -- What becomes of the words of a keyed line.
-use Rattle.std.proofs.Common.{◌≡◌, ℕ, ◌<◌, List, [], ◌∷◌, ◌++◌, length, Ok, Err, Result, refl, subst, inl, inr, arith, MatchResult}
+use Rattle.std.proofs.Common.{◌≡◌, ℕ, ◌<◌, List, [], ◌∷◌, ◌++◌, length, Ok, Err, Result, sym, refl, subst, inl, inr, arith, MatchResult}
 use Rattle.std.specs.Char.{is_whitespace, is_not_whitespace}
 use Rattle.std.specs.Str.{NoCharPasses, EmptyOrStartsWithPassing}
 use Rattle.readings.specs.Keyed.{Cuts, First, Refused, Three, Words, Writes, Wrong}
@@ -17,7 +17,10 @@ first_of text word rest cut = record { gap = cut.0; cut = cut.1; some = cut.2; b
 few : (text : List ℕ) (words : List (List ℕ)) (rest : List ℕ) → Cuts text words rest → length words < 3 → NoCharPasses is_not_whitespace rest → Refused text keyed.WrongCount
 few text words rest cuts h blank = inl (refl, (words, rest, cuts, inl (h, blank)))
 
--- one word, two, and a fourth
+-- no word, one, two, and a fourth
+pub no_word : (text from : List ℕ) → from ≡ text → NoCharPasses is_not_whitespace from → Refused text keyed.WrongCount
+no_word text from e blank = few text [] from (sym e) (omega arith) blank
+
 pub one_word : (text from a r : List ℕ) → from ≡ text → Found from a r → NoCharPasses is_not_whitespace r → Refused text keyed.WrongCount
 one_word text from a r e f blank = subst (λ t. Refused t keyed.WrongCount) e (few from (a ∷ []) r (r, first_of from a r f, refl) (omega arith) blank)
 
