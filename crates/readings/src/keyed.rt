@@ -29,7 +29,8 @@ fn of_words(batch: &str, temperature: &str, viscosity: &str) -> Result<Reading, 
 pub fn keyed(text: &str) -> Result<Reading, Miskeyed>
     ensures { MatchResult result (λ x. (words : Words) × Three text.now words × Writes words x) (λ e. Refused text.now e) }
 {
-    let mut words = text.split_whitespace();
+    // Fused, so that white space behind a short line is read once.
+    let mut words = text.split_whitespace().fuse();
     match (words.next(), words.next(), words.next(), words.next()) {
         (Some(batch), Some(temperature), Some(viscosity), None) => {
             of_words(batch, temperature, viscosity)
