@@ -1,7 +1,8 @@
 -- What is printed of what an order answers, and where it is not carried out.
 use Rattle.std.specs.Prelude.{ℕ, List, [], ◌∷◌, ◌++◌, flat_map, length, codes, vec_items}
 use Rattle.std.specs.Fmt.{decimal}
-use Rattle.lines.specs.Texts.{mark_text}
+use Rattle.lines.specs.Refusals.{record_refusal_number}
+use Rattle.lines.specs.Texts.{mark_text, record_refusal_text}
 use Rattle.lines.specs.declared.mark.Mark.{Mark}
 use Rattle.lines.specs.declared.sampling.Kept.{Kept}
 use Rattle.lines.specs.declared.sampling.Kept.TheVariants as kept
@@ -41,6 +42,8 @@ help_text = codes "commands: marks HH.., characters HH.., reversal, sampling, ba
 
 abbrev pub answer_text : Answer → List ℕ
 answer_text answer.Nothing = []
+answer_text (answer.Chosen kind count) = codes "ok " ++ (kind_name kind ++ (codes ", " ++ (decimal count ++ codes " octets")))
+answer_text (answer.Refused refusal) = codes "refused " ++ (decimal (record_refusal_number refusal) ++ (codes ": " ++ record_refusal_text refusal))
 answer_text (answer.Line setup) = codes "ok " ++ setup_text setup
 answer_text (answer.Uncovered setup kept) = codes "ok " ++ (setup_text setup ++ kept_text kept)
 answer_text (answer.Took marks) = took_text (vec_items marks)

@@ -7,6 +7,7 @@ ghost use Rattle.commands.specs.declared.answer.Undone.TheVariants.{NoMemory};
 
 use lines::line::Line;
 use lines::mark::Mark;
+use lines::refusal::RecordRefusal;
 use lines::sampling::Kept;
 use stacks::layer::Layers;
 use stacks::record::RecordKind;
@@ -50,6 +51,9 @@ impl fmt::Display for Setup {
 #[derive(Drop)]
 pub enum Answer {
     Nothing,
+    // a record was chosen: its kind and how many octets it has
+    Chosen(RecordKind, usize),
+    Refused(RecordRefusal),
     Line(Setup),
     // the line without its uppermost layer, and what that kept
     Uncovered(Setup, Kept),
@@ -66,6 +70,8 @@ impl fmt::Display for Answer {
     fn fmt<W: fmt::Write>(&self, f: &mut fmt::Formatter<W>) -> fmt::Result {
         match self {
             Answer::Nothing => Ok(()),
+            Answer::Chosen(kind, count) => write!(f, "ok {kind}, {count} octets"),
+            Answer::Refused(refusal) => write!(f, "refused {}: {refusal}", refusal.number()),
             Answer::Line(setup) => write!(f, "ok {setup}"),
             Answer::Uncovered(setup, Kept::Nothing) => write!(f, "ok {setup}"),
             Answer::Uncovered(setup, Kept::Single(first)) => {

@@ -6,6 +6,7 @@ ghost use Rattle.lines.specs.declared.refusal.RecordRefusal.TheVariants.{OddOcte
 ghost use Rattle.stacks.specs.declared.record.RecordKind.TheVariants.{Marks};
 ghost use Rattle.stacks.specs.Records.{Suits, marks_in, recorded};
 
+use commands::answer::Answer;
 use commands::command::Command;
 use commands::work::obey;
 use desk::desk::Desk;
@@ -104,10 +105,10 @@ fn serve(
         match Command::read(heap, text) {
             Ok(Command::Choose(kind, octets)) => match Choice::new(kind, octets) {
                 Ok(next) => {
-                    println!(rt; "ok {kind}, {} octets", next.octets.len())?;
+                    println!(rt; "{}", Answer::Chosen(kind, next.octets.len()))?;
                     return Ok(Some(next));
                 }
-                Err(refusal) => println!(rt; "refused {}: {refusal}", refusal.number())?,
+                Err(refusal) => println!(rt; "{}", Answer::Refused(refusal))?,
             },
             Ok(Command::Work(order)) => {
                 let (answer, next) = obey(heap, choice.kind, line, order);
