@@ -1,5 +1,6 @@
 use crate::command::{Command, Order};
 use crate::octet::octet;
+use crate::words::octets;
 use lines::mark::Mark;
 use stacks::layer::Layer;
 use stacks::record::{Record, RecordKind};
@@ -12,6 +13,15 @@ fn two_hex_digits(rt: HostRuntime) {
     assert_eq!(rt; octet("0F"), Some(15));
     assert_eq!(rt; octet("g0"), None);
     assert_eq!(rt; octet("123"), None);
+}
+
+#[test]
+fn octets_of_words(rt: HostRuntime) -> Result<(), Fail> {
+    let Ok(octets) = octets(rt.alloc(), "a5 0F\n".split_whitespace()) else {
+        return Err(Fail::new("not read"));
+    };
+    assert_eq!(rt; octets.as_slice(), [0xa5, 15].as_slice());
+    Ok(())
 }
 
 #[test]
