@@ -27,7 +27,8 @@ impl Register {
         self.odd = self.odd != bit;
     }
 
-    // The eight bits of an octet, highest first.
+    // The eight bits of an octet, highest first. Inline: as a call it costs FT2's reader a third more at every mark.
+    #[inline(always)]
     pub fn take_octet(&mut self, octet: u8)
         ensures { (u : List Bool) → Stands self.old u → Stands self.new (u ++ octet_bits octet) }
     {
