@@ -6,20 +6,34 @@ ghost use Rattle.formats.specs.Marks.{ones};
 ghost use Rattle.readings.specs.Octets.{octets_of};
 ghost use Rattle.bath.specs.Texts.{Unsent};
 
-use anyhow::Context;
+use anyhow::{Error, anyhow};
 use formats::format::WriteFormat;
+use formats::refusal::WriteRefusal;
 use readings::reading::Reading;
 use readings::reading::octets::READING_KIND;
-use std::alloc::Global;
+use std::alloc::{AllocError, Global};
 
 // The most marks that a frame or a gap has here.
 const MARKS: usize = 512;
+
+// What went wrong, made only where it did: an error is large, and moved with every answer that could hold one.
+fn no_memory(_: AllocError) -> Error
+    ensures { HasMessage (Some (codes "no memory")) result }
+{
+    anyhow!("no memory")
+}
+
+fn refused(_: WriteRefusal) -> Error
+    ensures { HasMessage (Some (codes "the frame is refused")) result }
+{
+    anyhow!("the frame is refused")
+}
 
 // Appends octets to the marks.
 fn append(marks: &mut Vec<u8>, octets: &[u8]) -> anyhow::Result<()>
     ensures { MatchResult result (λ _. marks.new.items ≡ marks.old.items ++ octets.now) (λ e. HasMessage (Some (codes "no memory")) e) }
 {
-    marks.extend_from_slice(octets).context("no memory")
+    marks.extend_from_slice(octets).map_err(no_memory)
 }
 
 // Gathers marks in a format; each gap and frame is written to the buffer first. Not shared with soak: the sizes differ,
@@ -50,14 +64,12 @@ impl<W: WriteFormat> Sender<W> {
     }
 
     // Puts the marks of a gap behind the marks so far.
+    #[inline]
     pub fn put_gap(&mut self) -> anyhow::Result<()>
         ensures format { self.new.format ≡ self.old.format }
         ensures marks { MatchResult result (λ _. self.new.marks.items ≡ self.old.marks.items ++ map mark_octet (ones (W.ReadFormat.model self.old.format).gap)) Unsent }
     {
-        let gap = self
-            .format
-            .write_gap(&mut self.buffer)
-            .context("the frame is refused")?;
+        let gap = self.format.write_gap(&mut self.buffer).map_err(refused)?;
         append(&mut self.marks, &self.buffer[..gap])
     }
 
@@ -70,7 +82,7 @@ impl<W: WriteFormat> Sender<W> {
         let count = self
             .format
             .write(READING_KIND, &octets, &mut self.buffer)
-            .context("the frame is refused")?;
+            .map_err(refused)?;
         append(&mut self.marks, &self.buffer[..count])
     }
 }
